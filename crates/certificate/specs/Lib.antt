@@ -1,0 +1,5 @@
+pub mod Heads
+pub mod Bodies
+pub mod Signatures
+pub mod Certificates
+pub mod Operations

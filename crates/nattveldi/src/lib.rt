@@ -1,0 +1,6 @@
+// Nattveldi: the operations and their types. Nothing else is here.
+pub use certificate::certificates::Certificate;
+pub use certificate::operations::Identified;
+pub use certificate::operations::Reading;
+pub use certificate::operations::id;
+pub use certificate::operations::read;

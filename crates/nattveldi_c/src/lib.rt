@@ -1,0 +1,46 @@
+// The C interface (include/nattveldi.h): numbers and octet slices. A buffer that is too short is a bad call.
+mod words; // words of four octets in a buffer
+mod fields; // the fields of a certificate as words
+
+ghost use mathlib.Core.Path.{_≡_};
+ghost use mathlib.Core.List.{List};
+ghost use Prim.Native.Nat.{ℕ};
+ghost use Rattle.nattveldi_c.specs.Calls.{readCall, idCall};
+use fields::write_fields;
+use octets::buffers::write_front;
+use octets::refusals::ACCEPTED;
+use octets::refusals::BAD_CALL;
+
+#[no_mangle]
+pub extern "C" fn nattveldi_read(certificate: &[u8], fields: &mut [u8]) -> u8
+    ensures { λ r. ⌜ _≡_ {A = ℕ × List ℕ} (r, now (fields .exit)) (readCall (now (certificate .entry)) (now (fields .entry))) ⌝ }
+{
+    if fields.len() < 360 {
+        return BAD_CALL;
+    }
+    let reading = nattveldi::read(certificate);
+    let number = reading.number;
+    if number != ACCEPTED {
+        return number;
+    }
+    let found = reading.certificate;
+    write_fields(fields, found);
+    ACCEPTED
+}
+
+#[no_mangle]
+pub extern "C" fn nattveldi_id(certificate: &[u8], id: &mut [u8]) -> u8
+    ensures { λ r. ⌜ _≡_ {A = ℕ × List ℕ} (r, now (id .exit)) (idCall (now (certificate .entry)) (now (id .entry))) ⌝ }
+{
+    if id.len() < 8 {
+        return BAD_CALL;
+    }
+    let identified = nattveldi::id(certificate);
+    let number = identified.number;
+    if number != ACCEPTED {
+        return number;
+    }
+    let octets = identified.id;
+    write_front(id, &octets);
+    ACCEPTED
+}

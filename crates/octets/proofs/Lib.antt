@@ -1,0 +1,9 @@
+pub mod Laws
+pub mod Inside
+pub mod Forward
+pub mod Turns
+pub mod Bounds
+pub mod Pasted
+pub mod Digits
+pub mod Leading
+pub mod Signed

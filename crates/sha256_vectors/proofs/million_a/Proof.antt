@@ -1,0 +1,13 @@
+-- `sha256_vectors::million_a` meets its contract.
+-- Assumes nothing.
+use mathlib.Core.Path.{sym}
+use Prim.Native.Nat.{ℕ}
+use lib.ListN.{length-replicate}
+use Rattle.sha256_vectors.proofs.million_a.Statement.{statement}
+use Rattle.sha256_vectors.proofs.million_a.Tie as tie
+
+returns : tie.Need-returns
+returns c = sym (length-replicate {A = ℕ} 1000000 97)
+
+pub million-a-spec : {M : Type 1} → statement M
+million-a-spec = tie.close (tie.spec returns)

@@ -1,0 +1,16 @@
+pub mod Lists
+pub mod Octets
+pub mod Digits
+pub mod Numbers
+pub mod Forms
+pub mod Intx
+pub mod Vectors
+pub mod Containers
+pub mod Elements
+pub mod Items
+pub mod Shapes
+pub mod Sequences
+pub mod Alternatives
+pub mod Contents
+pub mod Coordinates
+pub mod Durations

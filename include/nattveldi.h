@@ -1,0 +1,82 @@
+/* Nattveldi: road certificates (ETSI TS 103 097 V1.2.1), proved in Rattle.
+ *
+ * Every function takes any octets and any lengths, always returns, and
+ * answers one of the numbers below. It writes nothing but the buffer that it
+ * names, and that only when it answers NATTVELDI_ACCEPTED. A pointer may be
+ * anything if its length is 0; else it must be valid for that many octets,
+ * and a buffer that is written must not overlap another argument.
+ */
+#ifndef NATTVELDI_H
+#define NATTVELDI_H
+
+#include <stddef.h>
+#include <stdint.h>
+
+#ifdef __cplusplus
+extern "C" {
+#endif
+
+/* The answers. */
+enum {
+    NATTVELDI_ACCEPTED = 0,
+    NATTVELDI_BAD_CALL = 1,    /* a buffer is too short */
+    NATTVELDI_TOO_LONG = 3,    /* a certificate of more than 1,024 octets */
+    NATTVELDI_CUT = 4,         /* a field or vector passes the end of what holds it */
+    NATTVELDI_MALFORMED = 5,   /* against the layout's rules */
+    NATTVELDI_UNSUPPORTED = 6  /* a version, type or algorithm that is not read here */
+};
+
+/* The fields of a certificate: 90 words of 4 octets, big-endian, 360 octets
+ * in all. Word i stands at octets 4 i to 4 i + 3. A "part" is two words,
+ * start and length, and names octets of the certificate that was passed.
+ * Coordinates are 32-bit two's complement, in tenths of a microdegree.
+ * Unused places are zero.
+ */
+#define NATTVELDI_FIELDS_LENGTH 360
+
+enum {
+    NATTVELDI_SIGNER = 0,               /* 0 self, 1 digest */
+    NATTVELDI_ISSUER = 1,               /* part: the issuer's id; empty at 0 for signer 0 */
+    NATTVELDI_KIND = 3,                 /* 1 ticket, 2 authority, 4 root */
+    NATTVELDI_NAME = 4,                 /* part */
+    NATTVELDI_KEY_TYPE = 6,             /* point type of the verification key, 2 or 3 */
+    NATTVELDI_KEY = 7,                  /* part: its 32 octets */
+    NATTVELDI_ENCRYPTION_KEY_TYPE = 9,  /* point type 2 or 3; 0 without an encryption key */
+    NATTVELDI_ENCRYPTION_KEY = 10,      /* part: 32 octets; empty at 0 without one */
+    NATTVELDI_HAS_ASSURANCE = 12,       /* 1 if an assurance is given, else 0 */
+    NATTVELDI_ASSURANCE = 13,
+    NATTVELDI_PERIOD_FORM = 14,         /* 0 end, 1 start and end, 2 start and duration */
+    NATTVELDI_START = 15,               /* the first second of the period */
+    NATTVELDI_END = 16,                 /* the first second after it; two words, the high one first */
+    NATTVELDI_HAS_REGION = 18,          /* 1 if a region is given, "none" too, else 0 */
+    NATTVELDI_RECTANGLE_COUNT = 19,     /* 0 to 4; 0 means everywhere */
+    NATTVELDI_RECTANGLES = 20,          /* 4 times north, west, south, east */
+    NATTVELDI_PERMISSION_COUNT = 36,    /* 0 to 16 */
+    NATTVELDI_PERMISSIONS = 37,         /* 16 ITS-AIDs */
+    NATTVELDI_SSP_STARTS = 53,          /* 16 starts of the permissions' SSP */
+    NATTVELDI_SSP_LENGTHS = 69,         /* and their 16 lengths */
+    NATTVELDI_SIGNED = 85,              /* part: what the signature covers */
+    NATTVELDI_SIGNATURE = 87,           /* part: the whole signature structure, 66 octets */
+    NATTVELDI_SIGNATURE_TYPE = 89       /* its point type, 0, 2 or 3 */
+};
+
+/* Reads a certificate and writes its fields to the first 360 octets of
+ * `fields`; the octets behind them stay. Answers 1 if fields_length is under
+ * 360, then 3, 4, 5, 6 as reading goes; in a refusal `fields` stays as it was.
+ */
+uint8_t nattveldi_read(const uint8_t *certificate, size_t certificate_length,
+                       uint8_t *fields, size_t fields_length);
+
+/* Works out the id of a certificate, the last 8 octets of SHA-256 over it with
+ * the signature's point type taken as 0, and writes it to the first 8 octets
+ * of `id`; the octets behind them stay. Answers 1 if id_length is under 8,
+ * then as nattveldi_read does; in a refusal `id` stays as it was.
+ */
+uint8_t nattveldi_id(const uint8_t *certificate, size_t certificate_length,
+                     uint8_t *id, size_t id_length);
+
+#ifdef __cplusplus
+}
+#endif
+
+#endif

@@ -1,0 +1,102 @@
+//! Request lines, in the format of `vectors/README.md`.
+
+use crate::hex;
+
+/// A request that is answered.
+#[derive(Debug, PartialEq)]
+pub enum Request {
+    Read { certificate: Vec<u8> },
+    Id { certificate: Vec<u8> },
+}
+
+/// Why a line is not answered.
+#[derive(Debug, PartialEq, Eq)]
+pub enum Fault {
+    /// A request of the format which no side answers yet.
+    NotYet,
+    /// A first word that the format does not have.
+    Unknown,
+    /// Too few or too many words, or one that does not parse.
+    Unparsed,
+}
+
+type Parser = fn(&[&str]) -> Option<Request>;
+
+/// The format's requests. One without a parser is not answered yet.
+const KINDS: [(&str, Option<Parser>); 9] = [
+    ("read", Some(read)),
+    ("id", Some(id)),
+    ("install", None),
+    ("admit", None),
+    ("list", None),
+    ("withdraw", None),
+    ("prepare", None),
+    ("decide", None),
+    ("page", None),
+];
+
+/// Takes a request line apart.
+pub fn parse(line: &str) -> Result<Request, Fault> {
+    let mut words = line.split(' ');
+    let first = words.next().unwrap_or_default();
+    let (_, parser) = KINDS
+        .iter()
+        .find(|(kind, _)| *kind == first)
+        .ok_or(Fault::Unknown)?;
+    let parser = parser.ok_or(Fault::NotYet)?;
+    parser(&words.collect::<Vec<_>>()).ok_or(Fault::Unparsed)
+}
+
+fn read(words: &[&str]) -> Option<Request> {
+    let [certificate] = words else { return None };
+    Some(Request::Read {
+        certificate: hex::octets(certificate)?,
+    })
+}
+
+fn id(words: &[&str]) -> Option<Request> {
+    let [certificate] = words else { return None };
+    Some(Request::Id {
+        certificate: hex::octets(certificate)?,
+    })
+}
+
+#[cfg(test)]
+mod tests {
+    use super::*;
+
+    #[test]
+    fn requests() {
+        assert_eq!(
+            parse("read 0a(2)"),
+            Ok(Request::Read {
+                certificate: vec![10, 0, 0]
+            })
+        );
+        assert_eq!(
+            parse("id -"),
+            Ok(Request::Id {
+                certificate: vec![]
+            })
+        );
+    }
+
+    #[test]
+    fn what_is_none() {
+        assert_eq!(parse("decide - - 0 0 0 0 1 1"), Err(Fault::NotYet));
+        for line in ["", "reed 00", "READ 00", " read 00", "= 0"] {
+            assert_eq!(parse(line), Err(Fault::Unknown), "{line}");
+        }
+        for line in [
+            "read",
+            "read ",
+            "read 00 00",
+            "read  00",
+            "id 0",
+            "id 0A",
+            "read 00 ",
+        ] {
+            assert_eq!(parse(line), Err(Fault::Unparsed), "{line}");
+        }
+    }
+}

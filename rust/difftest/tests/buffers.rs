@@ -1,0 +1,121 @@
+//! What the library does with the caller's buffer.
+
+use difftest::draft::Draft;
+use difftest::plan::Plan;
+use difftest::random::Random;
+use difftest::sides::{self, Side};
+use nattveldi::raw;
+
+const BAD_CALL: u8 = 1;
+/// Two fills, so that an octet which is not written shows in one of them.
+const FILLS: [u8; 2] = [0x5a, 0xa5];
+/// By how much a buffer is longer than it need be.
+const LONGER: [usize; 4] = [0, 1, 9, 1_000];
+
+type Call = fn(&[u8], &mut [u8]) -> u8;
+
+fn certificates() -> Vec<Vec<u8>> {
+    (0..50)
+        .map(|case| {
+            Draft::of(&Plan::random(&mut Random::for_case(3, case)))
+                .encode()
+                .octets()
+        })
+        .collect()
+}
+
+/// Certificates that are refused, one for each number.
+fn refused() -> Vec<(u8, Vec<u8>)> {
+    let accepted = &certificates()[0];
+    let cut = accepted[..accepted.len() - 1].to_vec();
+    let left_over = [&accepted[..], &[0]].concat();
+    let other_version = [&[3], &accepted[1..]].concat();
+    let too_long = [&accepted[..], &[0; 1_024]].concat();
+    vec![
+        (4, Vec::new()),
+        (4, cut),
+        (5, left_over),
+        (6, other_version),
+        (3, too_long),
+    ]
+}
+
+/// A buffer that is too short is answered 1, whatever the certificate, and
+/// stays as it was.
+fn check_short(call: Call, needed: usize) {
+    let accepted = certificates().into_iter().take(5);
+    let all = accepted.chain(refused().into_iter().map(|(_, certificate)| certificate));
+    for certificate in all {
+        for length in 0..needed {
+            let mut buffer = vec![FILLS[0]; length];
+            assert_eq!(
+                call(&certificate, &mut buffer),
+                BAD_CALL,
+                "a buffer of {length}"
+            );
+            assert!(
+                buffer.iter().all(|&octet| octet == FILLS[0]),
+                "a buffer of {length}"
+            );
+        }
+    }
+}
+
+fn check_refused(call: Call, needed: usize) {
+    for (number, certificate) in refused() {
+        for length in LONGER.map(|more| needed + more) {
+            let mut buffer = vec![FILLS[0]; length];
+            assert_eq!(
+                call(&certificate, &mut buffer),
+                number,
+                "a buffer of {length}"
+            );
+            assert!(
+                buffer.iter().all(|&octet| octet == FILLS[0]),
+                "{number}, a buffer of {length}"
+            );
+        }
+    }
+}
+
+/// The answer fills exactly the first octets, whatever they were before.
+fn check_accepted(call: Call, expected: impl Fn(&[u8]) -> Vec<u8>) {
+    for certificate in certificates() {
+        let expected = expected(&certificate);
+        for length in LONGER.map(|more| expected.len() + more) {
+            for fill in FILLS {
+                let mut buffer = vec![fill; length];
+                assert_eq!(call(&certificate, &mut buffer), 0);
+                let (written, behind) = buffer.split_at(expected.len());
+                assert_eq!(written, expected);
+                assert!(
+                    behind.iter().all(|&octet| octet == fill),
+                    "a buffer of {length}"
+                );
+            }
+        }
+    }
+}
+
+#[test]
+fn short_buffers() {
+    check_short(raw::read, raw::FIELDS_LENGTH);
+    check_short(raw::id, raw::ID_LENGTH);
+}
+
+#[test]
+fn refusals_leave_the_buffer() {
+    check_refused(raw::read, raw::FIELDS_LENGTH);
+    check_refused(raw::id, raw::ID_LENGTH);
+}
+
+#[test]
+fn answers_fill_the_buffers_front() {
+    check_accepted(raw::read, |certificate| {
+        let words = sides::read(Side::Reference, certificate).words;
+        words.into_iter().flat_map(u32::to_be_bytes).collect()
+    });
+    check_accepted(raw::id, |certificate| {
+        sides::id(Side::Reference, certificate).id.to_vec()
+    });
+}

@@ -1,0 +1,45 @@
+//! The functions of `include/nattveldi.h`. All unsafe code stands here.
+
+mod c {
+    extern "C" {
+        pub fn nattveldi_read(
+            certificate: *const u8,
+            certificate_length: usize,
+            fields: *mut u8,
+            fields_length: usize,
+        ) -> u8;
+
+        pub fn nattveldi_id(
+            certificate: *const u8,
+            certificate_length: usize,
+            id: *mut u8,
+            id_length: usize,
+        ) -> u8;
+    }
+}
+
+// SAFETY of all calls: each pointer comes from a slice together with its
+// length, a buffer that is written is borrowed alone, so that it overlaps no
+// other argument, and the library keeps no pointer.
+
+pub fn read(certificate: &[u8], fields: &mut [u8]) -> u8 {
+    unsafe {
+        c::nattveldi_read(
+            certificate.as_ptr(),
+            certificate.len(),
+            fields.as_mut_ptr(),
+            fields.len(),
+        )
+    }
+}
+
+pub fn id(certificate: &[u8], id: &mut [u8]) -> u8 {
+    unsafe {
+        c::nattveldi_id(
+            certificate.as_ptr(),
+            certificate.len(),
+            id.as_mut_ptr(),
+            id.len(),
+        )
+    }
+}

@@ -1,0 +1,75 @@
+//! Safe bindings over Nattveldi's proved library of road certificates
+//! (ETSI TS 103 097 V1.2.1).
+//!
+//! [`read`] takes a certificate apart and [`id`] works out its 8-octet id.
+//! Both take any octets of any length and either answer or give a
+//! [`Refusal`]. Nothing is copied out of the certificate: what the library
+//! found is named by [`Part`]s of the caller's octets.
+//!
+//! ```
+//! use nattveldi::{id, read, Kind, Refusal};
+//!
+//! let mut certificate = vec![2, 0, 4, 1, b'R']; // version 2, signed by itself, a root, named "R"
+//! certificate.extend([37, 0, 0, 2]);            // attributes: a verification key ..
+//! certificate.extend([7; 32]);
+//! certificate.extend([32, 0]);                  // .. and no permissions
+//! certificate.extend([5, 0, 0, 0, 3, 232]);     // restrictions: ends at second 1,000
+//! certificate.extend([0, 0]);                   // the signature
+//! certificate.extend([9; 64]);
+//!
+//! let fields = read(&certificate)?;
+//! assert_eq!(fields.kind, Kind::Root);
+//! assert_eq!(fields.name.of(&certificate), b"R");
+//! assert_eq!(fields.key.x.of(&certificate), [7; 32]);
+//! assert_eq!((fields.period.start, fields.period.end), (0, 1_000));
+//! assert_eq!(fields.signed.length, certificate.len() - 66);
+//! assert_eq!(id(&certificate)?.len(), 8);
+//!
+//! let refusal = read(&certificate[..50]).unwrap_err();
+//! assert_eq!(refusal, Refusal::Cut);
+//! assert_eq!(refusal.number(), 4);
+//! # Ok::<(), Refusal>(())
+//! ```
+//!
+//! The archive is made by `rt staticlib nattveldi_c` in the repository's root.
+//! If it stands in another folder than `target/staticlib` there, the
+//! environment variable `NATTVELDI_LIB_DIR` names that folder.
+
+#![deny(unsafe_code)]
+#![warn(missing_docs)]
+
+mod certificate;
+#[allow(unsafe_code)]
+mod ffi;
+pub mod raw;
+mod refusal;
+
+pub use certificate::{
+    Certificate, Kind, Part, Period, PeriodForm, Permission, PointType, PublicKey, Rectangle,
+    Signature,
+};
+pub use refusal::Refusal;
+
+/// Reads a certificate.
+///
+/// ```
+/// assert_eq!(nattveldi::read(&[]), Err(nattveldi::Refusal::Cut));
+/// assert_eq!(nattveldi::read(&[0; 1_025]), Err(nattveldi::Refusal::TooLong));
+/// ```
+pub fn read(certificate: &[u8]) -> Result<Certificate, Refusal> {
+    let mut fields = [0; raw::FIELDS_LENGTH];
+    refusal::result(raw::read(certificate, &mut fields))?;
+    Ok(Certificate::from_fields(&fields))
+}
+
+/// Works out the id of a certificate: the last 8 octets of SHA-256 over it,
+/// with the point type of its signature taken as 0.
+///
+/// ```
+/// assert_eq!(nattveldi::id(&[3]), Err(nattveldi::Refusal::Unsupported));
+/// ```
+pub fn id(certificate: &[u8]) -> Result<[u8; raw::ID_LENGTH], Refusal> {
+    let mut id = [0; raw::ID_LENGTH];
+    refusal::result(raw::id(certificate, &mut id))?;
+    Ok(id)
+}

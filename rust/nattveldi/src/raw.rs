@@ -1,0 +1,85 @@
+//! The library's functions as the C header has them: a number for an answer
+//! and a buffer of the caller. For tests, and for callers that want the words.
+
+use crate::ffi;
+
+/// How many octets [`read`] writes: 90 words of 4 octets, big-endian.
+pub const FIELDS_LENGTH: usize = 360;
+
+/// How many words the fields have.
+pub const WORDS: usize = FIELDS_LENGTH / 4;
+
+/// How many octets [`id`] writes.
+pub const ID_LENGTH: usize = 8;
+
+/// The most permissions that a certificate has.
+pub const MOST_PERMISSIONS: usize = 16;
+
+/// The most rectangles that a region has.
+pub const MOST_RECTANGLES: usize = 4;
+
+/// The answer of an accepted call; every other number is a refusal.
+pub const ACCEPTED: u8 = 0;
+
+/// Where each field stands, counted in words. A part is two words, start and
+/// length.
+#[allow(missing_docs)] // the names are those of the C header
+pub mod word_at {
+    pub const SIGNER: usize = 0;
+    pub const ISSUER: usize = 1;
+    pub const KIND: usize = 3;
+    pub const NAME: usize = 4;
+    pub const KEY_TYPE: usize = 6;
+    pub const KEY: usize = 7;
+    pub const ENCRYPTION_KEY_TYPE: usize = 9;
+    pub const ENCRYPTION_KEY: usize = 10;
+    pub const HAS_ASSURANCE: usize = 12;
+    pub const ASSURANCE: usize = 13;
+    pub const PERIOD_FORM: usize = 14;
+    pub const START: usize = 15;
+    pub const END: usize = 16;
+    pub const HAS_REGION: usize = 18;
+    pub const RECTANGLE_COUNT: usize = 19;
+    pub const RECTANGLES: usize = 20;
+    pub const PERMISSION_COUNT: usize = 36;
+    pub const PERMISSIONS: usize = 37;
+    pub const SSP_STARTS: usize = 53;
+    pub const SSP_LENGTHS: usize = 69;
+    pub const SIGNED: usize = 85;
+    pub const SIGNATURE: usize = 87;
+    pub const SIGNATURE_TYPE: usize = 89;
+}
+
+/// Reads a certificate and writes its fields to the first 360 octets of
+/// `fields`; the octets behind them stay. The answer is 1 if `fields` has
+/// fewer. In a refusal `fields` stays as it was.
+///
+/// ```
+/// let mut fields = [7; 359];
+/// assert_eq!(nattveldi::raw::read(&[], &mut fields), 1);
+/// assert_eq!(fields, [7; 359]);
+/// ```
+pub fn read(certificate: &[u8], fields: &mut [u8]) -> u8 {
+    ffi::read(certificate, fields)
+}
+
+/// Works out the id of a certificate and writes it to the first 8 octets of
+/// `id`; the octets behind them stay. The answer is 1 if `id` has fewer. In a
+/// refusal `id` stays as it was.
+///
+/// ```
+/// let mut id = [7; 9];
+/// assert_eq!(nattveldi::raw::id(&[], &mut id), 4);
+/// assert_eq!(id, [7; 9]);
+/// ```
+pub fn id(certificate: &[u8], id: &mut [u8]) -> u8 {
+    ffi::id(certificate, id)
+}
+
+/// The word at an index of what [`read`] wrote.
+///
+/// Panics if the word does not lie inside `fields`.
+pub fn word(fields: &[u8], index: usize) -> u32 {
+    let octets = &fields[4 * index..4 * index + 4];
+    u32::from_be_bytes([octets[0], octets[1], octets[2], octets[3]])
+}
