@@ -1,7 +1,7 @@
 -- The readers of a certificate go forward. Assumes nothing.
 use mathlib.Core.Bool.{Bool, true}
 use mathlib.Core.List.{List}
-use Prim.Native.Nat.{ℕ, _+_, _-_, _≤_}
+use Prim.Native.Nat.{ℕ, _-_}
 use native.Mathlib.Nat.{le-refl}
 use native.Mathlib.Omega.{arith}
 use lib.ListN.{length, take}
@@ -10,7 +10,7 @@ use Rattle.octets.specs.Forward.{Forward}
 use Rattle.octets.specs.Numbers.{octetAt}
 use Rattle.octets.specs.Vectors.{spanAt, runAt}
 use Rattle.octets.specs.Elements.{exactlyAt}
-use Rattle.octets.proofs.Forward.{forward-need, forward-pick, forward-bind, forward-then, forward-inner, octet-forward, span-forward, run-forward, exactly-forward}
+use Rattle.octets.proofs.Forward.{forward-need, forward-pick, forward-then, forward-inner, octet-forward, span-forward, run-forward, exactly-forward}
 use Rattle.attributes.specs.Points.{pointAt}
 use Rattle.attributes.specs.Vector.{attributesIn, completeAttributes}
 use Rattle.attributes.proofs.Forward.{point-forward, attributes-forward}

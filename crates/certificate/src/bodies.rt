@@ -1,6 +1,4 @@
 ghost use mathlib.Core.Path.{_≡_};
-ghost use mathlib.Core.Bool.{Bool};
-ghost use Rattle.octets.specs.Reading.{refused};
 ghost use Rattle.attributes.specs.Vector.{attributesOf};
 ghost use Rattle.restrictions.specs.Vector.{restrictionsOf};
 ghost use Rattle.certificate.specs.Bodies.{attributesAt, restrictionsAt};

@@ -1,6 +1,6 @@
 -- The fields of a certificate as words: the layout of include/nattveldi.h, section by section.
 use Prim.Native.Nat.{ℕ, _/_, _^_}
-use mathlib.Core.Bool.{Bool, true, false}
+use mathlib.Core.Bool.{Bool}
 use mathlib.Core.List.{List, [], _∷_, map}
 use lib.ListN.{getD}
 use lib.Dec.{eqb}

@@ -6,6 +6,7 @@ use native.Mathlib.Omega.{arith}
 use Rattle.octets.specs.Reading.{Out, got, refused, refusalOf, bind, need, pick}
 use Rattle.octets.specs.Vectors.{outOf}
 use Rattle.octets.specs.declared.vectors.Next.{Next}
+use Rattle.octets.specs.declared.vectors.Next.the-variants as next
 
 -- the four steps of a definition by `bind` and `need`: a chain of them leads from the definition to an answer
 module _ {A B : Type 0} where
@@ -54,3 +55,11 @@ passed e a b = ap (λ (x : Bool). pick x a b) e
 -- what a call says of the definition, where its answer is an outcome with the value a beside it
 pub wasOut : {A : Type 0} {o : Out A} {p q : Next} (a : A) → outOf p a ≡ o → p ≡ q → o ≡ outOf q a
 wasOut a h g = was (λ (x : Next). outOf x a) h g
+
+-- a value that is put into a larger one keeps its outcome
+out-bind : {A B : Type 0} (f : A → B) (p : Next) (a : A) → bind (outOf p a) (λ x n. got (f x) n) ≡ outOf p (f a)
+out-bind f (next.At n) a = refl
+out-bind f (next.Refused n) a = refl
+
+pub carried : {A B : Type 0} (f : A → B) (p : Next) (a : A) {o : Out A} → outOf p a ≡ o → bind o (λ x n. got (f x) n) ≡ outOf p (f a)
+carried {A} f p a h = ap (λ (o : Out A). bind o (λ x n. got (f x) n)) (sym h) ∙ out-bind f p a

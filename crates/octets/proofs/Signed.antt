@@ -1,16 +1,16 @@
 -- Laws on signed numbers of 32 bits, as the machine's operations leave them.
 use Prim.Native.Nat.{ℕ, zero, suc, _-_, _<_, _≤_}
-use mathlib.Core.Path.{_≡_, refl, sym, ap, _∙_, subst}
+use mathlib.Core.Path.{_≡_, refl, sym, ap, subst}
 use mathlib.Core.Bool.{Bool, true, false}
 use Rattle.octets.specs.Reading.{pick}
 use native.Mathlib.Omega.{arith}
-use borrow.Author.Tests.{le-ltb, ltb-true}
+use borrow.Author.Tests.{lt-ltb, le-ltb, ltb-true, leb-true, leb-false}
 use lib.Dec.{ltb, T}
 use Rattle.octets.specs.Coordinates.{signedOf}
 use lib.IntN.{ℤ, pos, negsuc, negℤ, predℤ, sucℤ}
-use lib.Signed.{mag, ltZ}
+use lib.Signed.{mag, leZ, ltZ}
 use mir.Syntax.{w32}
-use mir.Val.{toZ, ofZ, sel}
+use mir.Val.{SFits, toZ, ofZ, sel}
 use mir.Facts.{toZ-ofZ}
 
 pub mag-neg : (k : ℕ) → mag (negℤ (pos k)) ≤ k
@@ -56,6 +56,23 @@ pub not-neg : (z : ℤ) → ltZ z (pos 0) ≡ false → z ≡ pos (mag z)
 not-neg (pos n) t = refl
 not-neg (negsuc n) t = absurd (subst T t tt)
 
--- a comparison of two numbers, each as its local holds it
-pub lt-flag : (a b : ℤ) → mag a < 2147483648 → mag b < 2147483648 → ltZ (toZ w32 (ofZ w32 a)) (toZ w32 (ofZ w32 b)) ≡ ltZ a b
-lt-flag a b f g = rw (toZ-ofZ {w = w32} {z = a} (record { sfits = f }), toZ-ofZ {w = w32} {z = b} (record { sfits = g }))
+-- the order of two integers, tested the other way round
+le-not-lt : (a b : ℤ) → leZ a b ≡ true → ltZ b a ≡ false
+le-not-lt (pos a) (pos b) h = le-ltb b a (leb-true a b h)
+le-not-lt (pos a) (negsuc b) h = sym h
+le-not-lt (negsuc a) (pos b) h = refl
+le-not-lt (negsuc a) (negsuc b) h = le-ltb a b (leb-true b a h)
+
+not-le-lt : (a b : ℤ) → leZ a b ≡ false → ltZ b a ≡ true
+not-le-lt (pos a) (pos b) h = lt-ltb b a (leb-false a b h)
+not-le-lt (pos a) (negsuc b) h = refl
+not-le-lt (negsuc a) (pos b) h = sym h
+not-le-lt (negsuc a) (negsuc b) h = lt-ltb a b (leb-false b a h)
+
+-- the same of two numbers of 32 bits, each as its local holds it
+module _ {a b : ℤ} (f : SFits w32 a) (g : SFits w32 b) where
+  pub at-most : leZ (toZ w32 (ofZ w32 a)) (toZ w32 (ofZ w32 b)) ≡ true → ltZ b a ≡ false
+  at-most h = le-not-lt a b (rw (toZ-ofZ f, toZ-ofZ g) at h)
+
+  pub above : leZ (toZ w32 (ofZ w32 a)) (toZ w32 (ofZ w32 b)) ≡ false → ltZ b a ≡ true
+  above h = not-le-lt a b (rw (toZ-ofZ f, toZ-ofZ g) at h)

@@ -4,13 +4,13 @@
 --     zero-exactly, number-exactly    the same of the number alone, where no row refuses with 0
 --     all-pass, first-fails    the same of a plain table;  table: an order's number is its table's
 -- Assumes nothing.
-use mathlib.Core.Path.{_≡_, refl, sym, ap, subst, _∙_}
+use mathlib.Core.Path.{_≡_, refl, sym, ap, _∙_}
 use mathlib.Core.Logic.{_⊎_, inl, inr, _↔_}
 use mathlib.Core.Bool.{Bool, true, false}
 use mathlib.Core.List.{List, [], _∷_, _++_}
 use Prim.Native.Nat.{ℕ, zero, suc}
 use native.Mathlib.Omega.{arith}
-use Rattle.order.specs.Steps.{Answer, gives, refused, number, pick, onward, Steps, done, stop, need, take, fork, run, Gives, Refuses, And, Named, Numbered, Check, row, firstOf, needs, follow, Pass, Coded, no-row, coded, First, rowsOf, rows}
+use Rattle.order.specs.Steps.{Answer, gives, refused, number, pick, onward, Steps, done, stop, need, take, fork, run, Gives, Refuses, Named, Numbered, Check, firstOf, needs, follow, Pass, Coded, no-row, coded, First, rows}
 
 module _ {R : Type 0} where
   pub gives-refused : (r : R) (k : ℕ) → ¬ (refused k ≡ gives r)

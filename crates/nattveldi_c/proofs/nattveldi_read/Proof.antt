@@ -1,6 +1,5 @@
 use Prim.Native.Nat.{ℕ}
 use Rattle.certificate.specs.declared.operations.Reading.{Reading}
-use Rattle.nattveldi_c.specs.Calls.{Call}
 use Rattle.octets.specs.Refusals.{ACCEPTED}
 use mathlib.Core.List.{List}
 -- `nattveldi_c::nattveldi_read` meets its contract. Assumes nothing.

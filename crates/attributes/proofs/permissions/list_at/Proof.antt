@@ -1,13 +1,11 @@
 use lib.Seq.{length-take-le}
 -- `attributes::permissions::list_at` meets its contract. Assumes nothing.
-use Prim.Native.Nat.{_≤_}
 use Rattle.attributes.specs.Permissions.{listAt}
 use Rattle.octets.proofs.Inside.{announced-inside, span-inside}
 use Rattle.octets.proofs.Laws.{was, then, stop, chosen, passed}
 use Rattle.octets.specs.Vectors.{spanOf}
 use borrow.Author.Tests.{not-true, not-false}
-use lib.ListN.{length}
-use mathlib.Core.Path.{_≡_, sym, _∙_}
+use mathlib.Core.Path.{sym, _∙_}
 use native.Mathlib.Omega.{arith}
 use borrow.Author.Needs.{needs}
 use Rattle.attributes.proofs.permissions.list_at.Statement.{statement}

@@ -8,7 +8,7 @@ use Rattle.attributes.specs.Permissions.{unused, permissionOf, permissio
 use Rattle.octets.proofs.Laws.{was, then, stop}
 use Rattle.octets.proofs.Turns.{Reading, begin, again, full, stopped, done, counted, filled}
 use Rattle.octets.specs.Numbers.{intxAt}
-use mathlib.Core.Path.{_≡_, sym, _∙_, ap}
+use mathlib.Core.Path.{sym, _∙_, ap}
 use native.Mathlib.Omega.{arith}
 use Rattle.attributes.proofs.permissions.permissions_in.Statement.{statement}
 use Rattle.attributes.proofs.permissions.permissions_in.Tie as tie

@@ -1,9 +1,8 @@
-use lib.ListN.{length}
 -- `certificate::operations::id` meets its contract. Assumes nothing.
 use Rattle.certificate.proofs.Inside.{whole-inside}
 use Rattle.certificate.specs.Operations.{identifiedOf, certificateId, idOf}
 use Rattle.octets.proofs.Laws.{wasOut}
-use mathlib.Core.Path.{sym, _∙_, ap}
+use mathlib.Core.Path.{sym, ap}
 use native.Mathlib.Omega.{arith}
 use borrow.Author.Needs.{needs}
 use Rattle.certificate.proofs.operations.id.Statement.{statement}

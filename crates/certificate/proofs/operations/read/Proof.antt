@@ -1,7 +1,7 @@
 -- `certificate::operations::read` meets its contract. Assumes nothing.
 use Rattle.certificate.specs.Operations.{answerOf, readingOf}
 use Rattle.octets.proofs.Laws.{wasOut}
-use mathlib.Core.Path.{sym, _∙_, ap}
+use mathlib.Core.Path.{sym, ap}
 use borrow.Author.Needs.{needs}
 use Rattle.certificate.proofs.operations.read.Statement.{statement}
 use Rattle.certificate.proofs.operations.read.Tie as tie

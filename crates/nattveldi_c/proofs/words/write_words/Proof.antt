@@ -1,11 +1,11 @@
 -- `nattveldi_c::words::write_words` meets its contract. The invariant: the octets of the first words are copied. Assumes nothing.
-use Prim.Native.Nat.{ℕ, _+_, _*_, _≤_, _<_, _-_}
+use Prim.Native.Nat.{_*_, _≤_, _-_}
 use Rattle.nattveldi_c.proofs.Pasted.{paste-word, paste-words}
 use Rattle.nattveldi_c.specs.Words.{wordsOctets}
 use borrow.Author.Needs.{needs}
 use lib.ListN.{length, length-set}
 use lib.Seq.{paste, paste-zero}
-use mathlib.Core.Path.{_≡_, refl, sym, ap, _∙_}
+use mathlib.Core.Path.{_≡_, refl, _∙_}
 use native.Mathlib.Omega.{arith}
 use Rattle.nattveldi_c.proofs.words.write_words.Statement.{statement}
 use Rattle.nattveldi_c.proofs.words.write_words.Tie as tie
