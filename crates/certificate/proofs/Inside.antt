@@ -1,6 +1,6 @@
 -- What is read of a certificate lies inside its container. Assumes nothing.
-use mathlib.Core.Path.{_≡_, sym, ap, subst}
-use mathlib.Core.Bool.{Bool, true}
+use mathlib.Core.Path.{_≡_, refl, sym, ap, subst}
+use mathlib.Core.Bool.{Bool, true, false}
 use mathlib.Core.List.{List}
 use Prim.Native.Nat.{ℕ, _+_, _-_, _≤_, _<_}
 use native.Mathlib.Omega.{arith}
@@ -17,6 +17,7 @@ use Rattle.attributes.specs.Points.{pointAt}
 use Rattle.attributes.specs.Vector.{completeAttributes}
 use Rattle.restrictions.specs.Vector.{completeRestrictions}
 use Rattle.certificate.specs.Heads.{nameAt, headAt}
+use Rattle.certificate.specs.Lacking.{afterVector}
 use Rattle.certificate.specs.Bodies.{attributesAt, restrictionsAt}
 use Rattle.certificate.specs.Signatures.{signatureAt}
 use Rattle.certificate.specs.Certificates.{certificateAt}
@@ -35,14 +36,21 @@ name-inside s at a e h =
     let y : p .1 + p .0 ≡ e = cc (r .1) in
     (omega arith, omega arith)
 
+-- where something was read, nothing was lacking
+after-got : {A B : Type 0} (complete : Bool) (field : Out A) (next : A → ℕ → Out B) {b : B} {m : ℕ} → afterVector complete field next ≡ got b m
+    → (a : A) × (n : ℕ) × (field ≡ got a n) × (next a n ≡ got b m)
+after-got true (got a n) next e = (a, n, refl, e)
+after-got true (refused k) next e = let z : _≡_ {A = ℕ} 0 1 = cc in absurd (omega arith)
+after-got false (got a n) next e = let z : _≡_ {A = ℕ} 0 1 = cc in absurd (omega arith)
+after-got false (refused k) next e = let z : _≡_ {A = ℕ} 0 1 = cc in absurd (omega arith)
+
 -- the signature starts where it was looked for, inside
 pub signature-inside : (complete : Bool) (s : List ℕ) (at : ℕ) (x : Signature) (next : ℕ) → signatureAt complete s at ≡ got x next → (x .octets .start ≡ at) × (at < length s)
 unfolding signatureAt exactlyAt
 signature-inside complete s at x next h =
-    let p = bind-got (exactlyAt 0 s at) _ h in
+    let p = after-got complete (exactlyAt 0 s at) _ h in
     let i = bind-got (octetAt s at) _ (p .2) in
-    let q = need-got 5 complete _ (p .3) in
-    let r = bind-got (pointAt true s (p .1)) _ (q .1) in
+    let r = bind-got (pointAt true s (p .1)) _ (p .3) in
     let t = bind-got (runAt 32 s (r .1)) _ (r .3) in
     (ap (λ (y : Out Signature). startOf at y) (sym (t .3)), octet-inside s at (i .0) (i .1) (i .2) .1)
   where

@@ -1,4 +1,5 @@
 pub mod Heads
+pub mod Lacking
 pub mod Bodies
 pub mod Signatures
 pub mod Certificates
