@@ -19,11 +19,21 @@ extern "C" {
 /* The answers. */
 enum {
     NATTVELDI_ACCEPTED = 0,
-    NATTVELDI_BAD_CALL = 1,    /* a buffer is too short */
-    NATTVELDI_TOO_LONG = 3,    /* a certificate of more than 1,024 octets */
-    NATTVELDI_CUT = 4,         /* a field or vector passes the end of what holds it */
-    NATTVELDI_MALFORMED = 5,   /* against the layout's rules */
-    NATTVELDI_UNSUPPORTED = 6  /* a version, type or algorithm that is not read here */
+    NATTVELDI_BAD_CALL = 1,         /* a buffer is too short, or a store is not 13,568 octets */
+    NATTVELDI_BAD_STORE = 2,        /* a store against its own rules */
+    NATTVELDI_TOO_LONG = 3,         /* a certificate of more than 1,024 octets */
+    NATTVELDI_CUT = 4,              /* a field or vector passes the end of what holds it */
+    NATTVELDI_MALFORMED = 5,        /* against the layout's rules */
+    NATTVELDI_UNSUPPORTED = 6,      /* a version, type or algorithm that is not read here */
+    NATTVELDI_UNKNOWN = 7,          /* the issuer is not in the store */
+    NATTVELDI_WITHDRAWN = 8,        /* the issuer is withdrawn */
+    NATTVELDI_WRONG_KIND = 10,      /* a kind that the call does not take, or an issuer that is a ticket */
+    NATTVELDI_NOT_PERMITTED = 11,   /* a permission that the issuer lacks */
+    NATTVELDI_OUTSIDE_PERIOD = 12,  /* a period that is not inside the issuer's */
+    NATTVELDI_OUTSIDE_PLACE = 13,   /* a region that is not inside the issuer's */
+    NATTVELDI_BAD_SIGNATURE = 15,   /* the verdict on the signature is not good */
+    NATTVELDI_FULL = 16,            /* no slot of the store is empty */
+    NATTVELDI_ALREADY_HELD = 17     /* the id is in the store, held or withdrawn */
 };
 
 /* The fields of a certificate: 90 words of 4 octets, big-endian, 360 octets
@@ -74,6 +84,32 @@ uint8_t nattveldi_read(const uint8_t *certificate, size_t certificate_length,
  */
 uint8_t nattveldi_id(const uint8_t *certificate, size_t certificate_length,
                      uint8_t *id, size_t id_length);
+
+/* A store: 64 slots of 212 octets. A store of zeros is empty. What else it may
+ * hold is written by the functions below; a store that was changed in another
+ * way may be bad, and a bad store is refused with 2 by each of them.
+ */
+#define NATTVELDI_STORE_LENGTH 13568
+
+/* Installs a root (kind 4) in the lowest empty slot of `store`. `verdict` is
+ * the chip's octet on the certificate's signature: 1 good, any other bad.
+ * Answers 1 if store_length is not 13,568, then 2, then 3, 4, 5, 6 as reading
+ * goes, 10 for another kind, 17, 15, 16, in this order; in a refusal `store`
+ * stays as it was.
+ */
+uint8_t nattveldi_install(uint8_t *store, size_t store_length,
+                          const uint8_t *certificate, size_t certificate_length,
+                          uint8_t verdict);
+
+/* Admits a ticket or an authority (kind 1 or 2) below an issuer in the store,
+ * and writes it to the lowest empty slot of `store`. Answers as
+ * nattveldi_install does, with 10 for a root; between 17 and 15 comes the
+ * issuer: 7 if it is not in the store, 8 if it is withdrawn, 10 if it is a
+ * ticket, then 11, 12, 13. In a refusal `store` stays as it was.
+ */
+uint8_t nattveldi_admit(uint8_t *store, size_t store_length,
+                        const uint8_t *certificate, size_t certificate_length,
+                        uint8_t verdict);
 
 #ifdef __cplusplus
 }

@@ -1,21 +1,25 @@
-//! Finds the archive of the proved SHA-256 and, if it was made, tells cargo to link it.
+//! Finds the archives that are made for this benchmark and, for each one that
+//! was made, tells cargo to link it.
 
 use std::env;
 use std::path::PathBuf;
 
-const ARCHIVE: &str = "libsha256_c.a";
+/// Each library is in its archive `libNAME.a` and sets the condition `NAME`.
+const LIBRARIES: [&str; 2] = ["sha256_c", "store_c"];
 const VARIABLE: &str = "NATTVELDI_LIB_DIR";
 
 fn main() {
     let folder = folder();
-    let archive = folder.join(ARCHIVE);
-    println!("cargo::rustc-check-cfg=cfg(sha256_c)");
     println!("cargo::rerun-if-env-changed={VARIABLE}");
-    println!("cargo::rerun-if-changed={}", archive.display());
-    if archive.is_file() {
-        println!("cargo::rustc-cfg=sha256_c");
-        println!("cargo::rustc-link-search=native={}", folder.display());
-        println!("cargo::rustc-link-lib=static=sha256_c");
+    println!("cargo::rustc-link-search=native={}", folder.display());
+    for library in LIBRARIES {
+        let archive = folder.join(format!("lib{library}.a"));
+        println!("cargo::rustc-check-cfg=cfg({library})");
+        println!("cargo::rerun-if-changed={}", archive.display());
+        if archive.is_file() {
+            println!("cargo::rustc-cfg={library}");
+            println!("cargo::rustc-link-lib=static={library}");
+        }
     }
 }
 

@@ -1,4 +1,6 @@
 // Nattveldi: the operations and their types. Nothing else is here.
+pub use admission::admit;
+pub use admission::install;
 pub use certificate::certificates::Certificate;
 pub use certificate::operations::Identified;
 pub use certificate::operations::Reading;

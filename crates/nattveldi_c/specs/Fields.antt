@@ -12,7 +12,7 @@ use Rattle.attributes.specs.declared.points.Point.{Point}
 use Rattle.attributes.specs.declared.assurances.Assurance.{Assurance}
 use Rattle.attributes.specs.declared.permissions.Permission.{Permission}
 use Rattle.attributes.specs.declared.vector.Attributes.{Attributes}
-use Rattle.restrictions.specs.Rectangles.{unused}
+use Rattle.geo.specs.Area.{unused}
 use Rattle.restrictions.specs.declared.periods.Period.{Period}
 use Rattle.restrictions.specs.declared.vector.Restrictions.{Restrictions}
 use Rattle.certificate.specs.declared.heads.Head.{Head}

@@ -5,6 +5,7 @@ mod fields; // the fields of a certificate as words
 ghost use mathlib.Core.Path.{_≡_};
 ghost use mathlib.Core.List.{List};
 ghost use Prim.Native.Nat.{ℕ};
+ghost use Rattle.admission.specs.Order.{installed, admitted};
 ghost use Rattle.nattveldi_c.specs.Calls.{readCall, idCall};
 use fields::write_fields;
 use octets::buffers::write_front;
@@ -43,4 +44,18 @@ pub extern "C" fn nattveldi_id(certificate: &[u8], id: &mut [u8]) -> u8
     let octets = identified.id;
     write_front(id, &octets);
     ACCEPTED
+}
+
+#[no_mangle]
+pub extern "C" fn nattveldi_install(store: &mut [u8], certificate: &[u8], verdict: u8) -> u8
+    ensures { λ r. ⌜ _≡_ {A = ℕ × List ℕ} (r, now (store .exit)) (installed (now (store .entry)) (now (certificate .entry)) verdict) ⌝ }
+{
+    nattveldi::install(store, certificate, verdict)
+}
+
+#[no_mangle]
+pub extern "C" fn nattveldi_admit(store: &mut [u8], certificate: &[u8], verdict: u8) -> u8
+    ensures { λ r. ⌜ _≡_ {A = ℕ × List ℕ} (r, now (store .exit)) (admitted (now (store .entry)) (now (certificate .entry)) verdict) ⌝ }
+{
+    nattveldi::admit(store, certificate, verdict)
 }

@@ -7,6 +7,9 @@ ACCEPTED = 0
 abbrev pub BAD-CALL : ℕ
 BAD-CALL = 1
 
+abbrev pub BAD-STORE : ℕ
+BAD-STORE = 2
+
 abbrev pub TOO-LONG : ℕ
 TOO-LONG = 3
 
@@ -18,3 +21,30 @@ MALFORMED = 5
 
 abbrev pub UNSUPPORTED : ℕ
 UNSUPPORTED = 6
+
+abbrev pub UNKNOWN : ℕ
+UNKNOWN = 7
+
+abbrev pub WITHDRAWN : ℕ
+WITHDRAWN = 8
+
+abbrev pub WRONG-KIND : ℕ
+WRONG-KIND = 10
+
+abbrev pub NOT-PERMITTED : ℕ
+NOT-PERMITTED = 11
+
+abbrev pub OUTSIDE-PERIOD : ℕ
+OUTSIDE-PERIOD = 12
+
+abbrev pub OUTSIDE-PLACE : ℕ
+OUTSIDE-PLACE = 13
+
+abbrev pub BAD-SIGNATURE : ℕ
+BAD-SIGNATURE = 15
+
+abbrev pub FULL : ℕ
+FULL = 16
+
+abbrev pub ALREADY-HELD : ℕ
+ALREADY-HELD = 17

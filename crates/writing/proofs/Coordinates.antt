@@ -1,45 +1,20 @@
 -- Latitudes and longitudes are read exactly. Assumes nothing.
-use mathlib.Core.Path.{_≡_, refl, ap, _∙_}
-use mathlib.Core.Bool.{Bool, true, false}
+use mathlib.Core.Path.{_≡_, ap, _∙_}
+use mathlib.Core.Bool.{true}
 use mathlib.Core.List.{append-nil}
-use Prim.Native.Nat.{ℕ, suc, _-_, _≤_, _<_}
+use Prim.Native.Nat.{ℕ, suc, _-_, _<_}
 use native.Mathlib.Omega.{arith}
-use borrow.Author.Tests.{lt-ltb, le-ltb, leb-true}
-use lib.Dec.{ltb, leb}
 use lib.IntN.{ℤ, pos, negsuc}
 use lib.Signed.{mag}
 use Rattle.octets.specs.Reading.{bind}
 use Rattle.octets.specs.Numbers.{unsignedAt}
+use Rattle.octets.proofs.Signed.{signed-pattern, pattern-signed, pattern-below, between-mag}
 use Rattle.octets.specs.Coordinates.{signedOf, patternOf, between, limitedTo, latitudeAt, longitudeAt}
 use Rattle.writing.specs.Exactly.{Exact}
 use Rattle.writing.specs.Fields.{coordinateOctets, Latitude, Longitude}
-use Rattle.writing.proofs.Elements.{both}
 use Rattle.writing.proofs.Numbers.{unsigned-exact}
 use Rattle.writing.proofs.Shapes.{before, exactly, reshape}
 use Rattle.writing.proofs.Sequences.{seq, test, done}
-
--- there and back
-pub signed-pattern : (z : ℤ) → mag z < 2147483648 → signedOf (patternOf z) ≡ z
-signed-pattern (pos n) f = simp (lt-ltb n 2147483648 f)
-signed-pattern (negsuc n) f =
-    let e : 4294967295 - (4294967295 - n) ≡ n = omega arith in
-    simp (le-ltb (4294967295 - n) 2147483648 (omega arith), e)
-
-pub pattern-signed : (x : ℕ) → x < 4294967296 → patternOf (signedOf x) ≡ x
-pattern-signed x h = by-test (ltb x 2147483648) refl
-  where
-    by-test : (t : Bool) → ltb x 2147483648 ≡ t → patternOf (signedOf x) ≡ x
-    by-test true e = simp e
-    by-test false e = let k : 4294967295 - (4294967295 - x) ≡ x = omega arith in simp (e, k)
-
-pattern-below : (z : ℤ) → mag z < 2147483648 → patternOf z < 4294967296
-pattern-below (pos n) f = omega arith
-pattern-below (negsuc n) f = omega arith
-
--- a range of n + 1 both ways
-between-mag : (n : ℕ) (z : ℤ) → between (negsuc n) (pos (suc n)) z ≡ true → mag z ≤ suc n
-between-mag n (pos k) h = leb-true k (suc n) h
-between-mag n (negsuc k) h = omega (arith, leb-true k n (both (leb k n) true h .0))
 
 limited-exact : (n : ℕ) → n < 2147483647
     → Exact (λ z. between (negsuc n) (pos (suc n)) z ≡ true) coordinateOctets (λ at z. z) (λ s at. bind (unsignedAt 4 s at) (λ x next. limitedTo (negsuc n) (pos (suc n)) (signedOf x) next))

@@ -4,7 +4,7 @@ use std::hint::black_box;
 
 use difftest::random::Random;
 
-use crate::ffi;
+use crate::ffi::sha256;
 use crate::measure::{Buffer, Contest};
 use crate::set::Set;
 
@@ -21,7 +21,7 @@ and build again.
 
 /// The messages, the same ones for a seed; none if there is nothing to time.
 pub fn sets(seed: u64) -> Vec<Set> {
-    if !ffi::LINKED {
+    if !sha256::LINKED {
         return Vec::new();
     }
     let mut random = Random::new(seed);
@@ -36,7 +36,7 @@ pub fn sets(seed: u64) -> Vec<Set> {
 fn message(random: &mut Random, length: usize) -> Vec<u8> {
     let message = random.octets(length);
     let mut digest = [0; LENGTH];
-    let number = ffi::sha256_digest(&message, &mut digest);
+    let number = sha256::digest(&message, &mut digest);
     assert_eq!(
         (number, digest),
         (0, reference::sha256(&message)),
@@ -50,7 +50,7 @@ pub fn contest(set: &Set) -> Contest<'_> {
 }
 
 fn library(message: &[u8], buffer: &mut Buffer) {
-    black_box(ffi::sha256_digest(message, buffer));
+    black_box(sha256::digest(message, buffer));
     black_box(buffer);
 }
 
@@ -60,7 +60,7 @@ fn reference(message: &[u8], _: &mut Buffer) {
 
 /// What stands below the table: the speeds, or how to get them.
 pub fn remarks(contests: &[Contest]) -> String {
-    if !ffi::LINKED {
+    if !sha256::LINKED {
         return NOT_LINKED.to_string();
     }
     let digests = contests.iter().filter(|c| c.operation == OPERATION);

@@ -8,6 +8,8 @@ mod digests;
 mod ffi;
 mod measure;
 mod set;
+mod store_set;
+mod stores;
 mod table;
 
 use std::env;
@@ -18,12 +20,13 @@ use measure::Contest;
 const HELP: &str = "\
 bench [ROUNDS]
 
-Times the proved library and the reference on the same certificates and messages,
-in turn, in one run, and prints the shortest time of ROUNDS (300) as a table. It
-stops before that if their answers differ. The library is asked through its C
-functions, and its buffer is not cleared between calls; a row that says bindings
-times the safe bindings over them. SHA-256 is timed if `rt staticlib sha256_c`
-was run before this was built.
+Times the proved library and the reference on the same certificates, stores and
+messages, in turn, in one run, and prints the shortest time of ROUNDS (300) as a
+table. It stops before that if their answers differ. The library is asked through
+its C functions, and its buffer is not cleared between calls; a row that says
+bindings times the safe bindings over them. Stores that a call changes are
+restored outside the timed part. SHA-256 is timed if `rt staticlib sha256_c` was
+run before this was built, validity and records if `rt staticlib store_c` was.
 ";
 const ROUNDS: usize = 300;
 /// The seed of the inputs: each run has the same ones.
@@ -55,13 +58,15 @@ fn main() -> ExitCode {
 /// Both sides must agree on all inputs before anything is timed.
 fn bench(rounds: usize) {
     let certificates = set::certificates(SEED);
+    let stores = stores::rows(SEED);
     let messages = digests::sets(SEED);
     let mut contests: Vec<Contest> = certificates
         .iter()
         .flat_map(certificates::contests)
+        .chain(stores.iter().map(stores::Row::contest))
         .chain(messages.iter().map(digests::contest))
         .collect();
     measure::run(&mut contests, rounds);
     print!("{}", table::markdown(&contests, rounds));
-    print!("\n{}", digests::remarks(&contests));
+    print!("\n{}{}", digests::remarks(&contests), stores::remarks());
 }

@@ -1,15 +1,28 @@
 //! Times of two sides, in turn.
 
-use std::time::Instant;
+use std::hint::black_box;
+use std::time::{Duration, Instant};
 
-use nattveldi::raw;
+use nattveldi::raw::{FIELDS_LENGTH, STORE_LENGTH};
 
 use crate::set::Set;
 
 /// What a call may write to; it is not cleared between calls.
-pub type Buffer = [u8; raw::FIELDS_LENGTH];
+pub type Buffer = [u8; FIELDS_LENGTH];
 
-pub type Work = fn(&[u8], &mut Buffer);
+/// Reads an input.
+pub type Read = fn(&[u8], &mut Buffer);
+
+/// Changes a store: store, certificate, verdict.
+pub type Change = fn(&mut [u8], &[u8], u8) -> u8;
+
+/// What a side does with each input.
+#[derive(Clone, Copy)]
+pub enum Work {
+    Reads(Read),
+    /// The input is a store and a certificate behind it, with a good verdict.
+    Changes(Change),
+}
 
 /// One operation of both sides on one set, and the shortest time of each so
 /// far, in nanoseconds an input.
@@ -18,12 +31,17 @@ pub struct Contest<'a> {
     pub set: &'a Set,
     pub library: f64,
     pub reference: f64,
-    works: (Work, Work),
+    works: [Work; 2],
 }
 
 impl<'a> Contest<'a> {
-    pub fn new(operation: &'static str, set: &'a Set, library: Work, reference: Work) -> Self {
-        let works = (library, reference);
+    pub fn new(operation: &'static str, set: &'a Set, library: Read, reference: Read) -> Self {
+        let works = [library, reference].map(Work::Reads);
+        Contest::of(operation, set, works)
+    }
+
+    /// The works are the library's and the reference's.
+    pub fn of(operation: &'static str, set: &'a Set, works: [Work; 2]) -> Self {
         Contest {
             operation,
             set,
@@ -38,22 +56,41 @@ impl<'a> Contest<'a> {
 pub fn run(contests: &mut [Contest], rounds: usize) {
     for _ in 0..rounds {
         for contest in contests.iter_mut() {
-            contest.library = contest.library.min(time(contest.works.0, contest.set));
-            contest.reference = contest.reference.min(time(contest.works.1, contest.set));
+            let [library, reference] = contest.works;
+            contest.library = contest.library.min(time(library, contest.set));
+            contest.reference = contest.reference.min(time(reference, contest.set));
         }
     }
 }
 
 /// Nanoseconds an input, after one pass that is not timed.
 fn time(work: Work, set: &Set) -> f64 {
-    let mut buffer: Buffer = [0; raw::FIELDS_LENGTH];
-    let mut pass = || {
-        let start = Instant::now();
-        for input in &set.inputs {
-            work(input, &mut buffer);
-        }
-        start.elapsed()
+    let pass = || match work {
+        Work::Reads(read) => reading(read, set),
+        Work::Changes(change) => changing(change, set),
     };
     pass();
     pass().as_nanos() as f64 / set.inputs.len() as f64
+}
+
+fn reading(read: Read, set: &Set) -> Duration {
+    let mut buffer: Buffer = [0; FIELDS_LENGTH];
+    let start = Instant::now();
+    for input in &set.inputs {
+        read(input, &mut buffer);
+    }
+    start.elapsed()
+}
+
+/// The inputs are copied before the time starts, so that each pass has the
+/// stores as they were.
+fn changing(change: Change, set: &Set) -> Duration {
+    let mut inputs = set.inputs.clone();
+    let start = Instant::now();
+    for input in &mut inputs {
+        let (store, certificate) = input.split_at_mut(STORE_LENGTH);
+        black_box(change(store, certificate, 1));
+        black_box(store);
+    }
+    start.elapsed()
 }

@@ -2,6 +2,7 @@
 
 use nattveldi::raw::{word_at, ACCEPTED};
 
+use crate::changes::Changed;
 use crate::hex;
 use crate::requests::{self, Request};
 use crate::sides::{self, Id, Reading, Side};
@@ -22,12 +23,18 @@ pub fn to_request(side: Side, request: &Request) -> String {
     match request {
         Request::Read { certificate } => reading(certificate, &sides::read(side, certificate)),
         Request::Id { certificate } => id(&sides::id(side, certificate)),
+        Request::Change(change) => changed(&change.ask(side)),
     }
 }
 
 /// `NUMBER ID`
 fn id(answer: &Id) -> String {
     format!("{} {}", answer.number, hex::text(&answer.id))
+}
+
+/// `NUMBER STORE`
+fn changed(answer: &Changed) -> String {
+    format!("{} {}", answer.number, hex::text(&answer.store))
 }
 
 /// `NUMBER`, and where it is 0 also `KIND ISSUER NAME PARITY KEY ASSURANCE

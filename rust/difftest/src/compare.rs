@@ -2,7 +2,9 @@
 
 use nattveldi::raw::{word_at, WORDS};
 
+use crate::changes::{Change, Changed};
 use crate::sides::{self, Id, Reading, Side};
+use crate::slot::SLOT_LENGTH;
 
 /// Asks all sides for a certificate's fields and id. Answers the number that
 /// they agree on, or says where they differ.
@@ -20,6 +22,17 @@ pub fn certificate(certificate: &[u8]) -> Result<u8, String> {
         numbers(reading.number, id.number),
     )?;
     Ok(reading.number)
+}
+
+/// Asks all sides to change a store. Answers what they agree on, or says where
+/// they differ.
+pub fn change(change: &Change) -> Result<Changed, String> {
+    let answer = change.ask(Side::Reference);
+    let operation = format!("{:?}", change.operation);
+    for side in [Side::Library, Side::Bindings] {
+        same(side, &operation, changes(&change.ask(side), &answer))?;
+    }
+    Ok(answer)
 }
 
 fn same(side: Side, operation: &str, difference: Option<String>) -> Result<(), String> {
@@ -51,6 +64,21 @@ pub fn readings(left: &Reading, right: &Reading) -> Option<String> {
 pub fn ids(left: &Id, right: &Id) -> Option<String> {
     numbers(left.number, right.number).or_else(|| {
         (left.id != right.id).then(|| format!("id {:02x?} against {:02x?}", left.id, right.id))
+    })
+}
+
+/// Where two answers to a change differ, if they do.
+pub fn changes(left: &Changed, right: &Changed) -> Option<String> {
+    numbers(left.number, right.number).or_else(|| {
+        let mut octets = left.store.iter().zip(&right.store);
+        let at = octets.position(|(left, right)| left != right)?;
+        Some(format!(
+            "slot {}, octet {}: {:02x} against {:02x}",
+            at / SLOT_LENGTH,
+            at % SLOT_LENGTH,
+            left.store[at],
+            right.store[at]
+        ))
     })
 }
 
@@ -136,6 +164,27 @@ mod tests {
             let mut other = one;
             other.id[at] = 2;
             assert!(ids(&one, &other).is_some());
+        }
+    }
+
+    #[test]
+    fn differing_changes_are_reported() {
+        let one = Changed {
+            number: 0,
+            store: vec![7; 2 * SLOT_LENGTH],
+        };
+        assert_eq!(changes(&one, &one), None);
+        let refused = Changed {
+            number: 16,
+            ..one.clone()
+        };
+        assert_eq!(changes(&one, &refused), Some("number 0 against 16".into()));
+        for at in 0..one.store.len() {
+            let mut other = one.clone();
+            other.store[at] = 6;
+            let said = changes(&one, &other).expect("a difference");
+            let (slot, octet) = (at / SLOT_LENGTH, at % SLOT_LENGTH);
+            assert_eq!(said, format!("slot {slot}, octet {octet}: 07 against 06"));
         }
     }
 

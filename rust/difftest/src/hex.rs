@@ -28,6 +28,20 @@ pub fn octets(text: &str) -> Option<Vec<u8>> {
     (!text.is_empty()).then_some(octets)
 }
 
+/// A line with each `(N)` in it written out as N zero octets, or `None` if a
+/// parenthesis is not in the format.
+pub fn written_out(line: &str) -> Option<String> {
+    let mut pieces = line.split('(');
+    let mut text = pieces.next().unwrap_or_default().to_string();
+    for piece in pieces {
+        let (zeros, rest) = piece.split_once(')')?;
+        let zeros = number(zeros.as_bytes()).filter(|&zeros| zeros <= MOST_OCTETS)?;
+        text.push_str(&"00".repeat(zeros));
+        text.push_str(rest);
+    }
+    Some(text)
+}
+
 /// Octets as the format has them, written out whole.
 pub fn text(octets: &[u8]) -> String {
     if octets.is_empty() {
@@ -64,6 +78,16 @@ mod tests {
         assert_eq!(octets("(0)"), Some(vec![]));
         assert_eq!(text(&[0x0a, 0xff]), "0aff");
         assert_eq!(text(&[]), "-");
+    }
+
+    #[test]
+    fn lines_written_out() {
+        assert_eq!(written_out("0 01(2)ff -"), Some("0 010000ff -".into()));
+        assert_eq!(written_out("10 (1)(3)"), Some("10 00000000".into()));
+        assert_eq!(written_out("5"), Some("5".into()));
+        for line in ["0 (", "0 (3", "0 ()", "0 (x)", "0 (9999999)"] {
+            assert_eq!(written_out(line), None, "{line}");
+        }
     }
 
     #[test]

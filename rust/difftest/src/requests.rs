@@ -1,5 +1,6 @@
 //! Request lines, in the format of `vectors/README.md`.
 
+use crate::changes::{Change, Operation};
 use crate::hex;
 
 /// A request that is answered.
@@ -7,6 +8,7 @@ use crate::hex;
 pub enum Request {
     Read { certificate: Vec<u8> },
     Id { certificate: Vec<u8> },
+    Change(Change),
 }
 
 /// Why a line is not answered.
@@ -26,8 +28,8 @@ type Parser = fn(&[&str]) -> Option<Request>;
 const KINDS: [(&str, Option<Parser>); 9] = [
     ("read", Some(read)),
     ("id", Some(id)),
-    ("install", None),
-    ("admit", None),
+    ("install", Some(install)),
+    ("admit", Some(admit)),
     ("list", None),
     ("withdraw", None),
     ("prepare", None),
@@ -61,9 +63,57 @@ fn id(words: &[&str]) -> Option<Request> {
     })
 }
 
+fn install(words: &[&str]) -> Option<Request> {
+    change(Operation::Install, words)
+}
+
+fn admit(words: &[&str]) -> Option<Request> {
+    change(Operation::Admit, words)
+}
+
+fn change(operation: Operation, words: &[&str]) -> Option<Request> {
+    let [store, certificate, verdict] = words else {
+        return None;
+    };
+    Some(Request::Change(Change {
+        operation,
+        store: hex::octets(store)?,
+        certificate: hex::octets(certificate)?,
+        verdict: octet(verdict)?,
+    }))
+}
+
+/// A decimal number of up to 255, without a sign.
+fn octet(digits: &str) -> Option<u8> {
+    let all_digits = digits.bytes().all(|c| c.is_ascii_digit());
+    all_digits.then(|| digits.parse().ok()).flatten()
+}
+
 #[cfg(test)]
 mod tests {
     use super::*;
+
+    #[test]
+    fn changes() {
+        let (store, certificate) = (vec![0, 0], vec![10]);
+        for (operation, word) in [(Operation::Install, "install"), (Operation::Admit, "admit")] {
+            assert_eq!(
+                parse(&format!("{word} (2) 0a 255")),
+                Ok(Request::Change(Change {
+                    operation,
+                    store: store.clone(),
+                    certificate: certificate.clone(),
+                    verdict: 255
+                }))
+            );
+        }
+        for words in [
+            "", "(2)", "- -", "- - 1 1", "- - 256", "- - +1", "- - -", "- - ", "0 - 1",
+        ] {
+            let line = format!("admit {words}");
+            assert_eq!(parse(&line), Err(Fault::Unparsed), "{line}");
+        }
+    }
 
     #[test]
     fn requests() {

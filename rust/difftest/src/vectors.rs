@@ -3,7 +3,10 @@
 use std::fs;
 use std::path::{Path, PathBuf};
 
-/// A request and its answer, and the line that the request stands on.
+use crate::hex;
+
+/// A request as it stands in the file and its answer written out, and the line
+/// that the request stands on.
 #[derive(Debug, PartialEq)]
 pub struct Vector {
     pub line: usize,
@@ -34,7 +37,8 @@ fn parse(text: &str) -> Result<Vec<Vector>, String> {
             (Some((at, request)), Some(answer)) => vectors.push(Vector {
                 line: at,
                 request: request.into(),
-                answer: answer.into(),
+                answer: hex::written_out(answer)
+                    .ok_or_else(|| format!("line {}: an answer that does not parse", index + 1))?,
             }),
             (None, None) => open = Some((index + 1, line)),
             (Some((at, _)), None) => return Err(format!("line {at}: a request without an answer")),
@@ -55,14 +59,14 @@ mod tests {
 
     #[test]
     fn pairs() {
-        let vectors = parse("# comment\nread 00\n= 6\n\nid -\n= 4 00\n").unwrap();
+        let vectors = parse("# comment\nread 00\n= 6\n\nid -\n= 4 (2)\n").unwrap();
         assert_eq!(vectors.len(), 2);
         assert_eq!(
             vectors[1],
             Vector {
                 line: 5,
                 request: "id -".into(),
-                answer: "4 00".into()
+                answer: "4 0000".into()
             }
         );
     }
@@ -80,6 +84,10 @@ mod tests {
         assert_eq!(
             parse("\nread 00"),
             Err("line 2: a request without an answer".into())
+        );
+        assert_eq!(
+            parse("read 00\n= 0 (x)"),
+            Err("line 2: an answer that does not parse".into())
         );
     }
 }

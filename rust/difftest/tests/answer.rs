@@ -9,6 +9,9 @@ use difftest::vectors;
 /// A root: name "R", no permissions, ends at second 1,000.
 const ROOT: &str = "020004015225000002(32)20000500000003e80000(64)";
 
+/// From `sha256sum` over its octets.
+const ROOT_ID: &str = "86057c3d82f36f2d";
+
 fn run(words: &[&str], input: &[u8]) -> Output {
     let mut child = Command::new(env!("CARGO_BIN_EXE_answer"))
         .args(words)
@@ -38,7 +41,7 @@ fn lines(words: &[&str], input: &[u8]) -> Vec<String> {
 #[test]
 fn answers_a_file_of_vectors() {
     for words in [&[][..], &["--reference"]] {
-        for file in ["reading.txt", "open-points.txt"] {
+        for file in ["reading.txt", "open-points.txt", "operations.txt"] {
             let vectors = vectors::file(file);
             let input: String = vectors
                 .iter()
@@ -73,6 +76,29 @@ fn answers_error_and_goes_on() {
     }
     assert_eq!(lines(&[], b"read \xff\n"), ["error"]);
     assert_eq!(lines(&[], b""), [""; 0]);
+}
+
+/// A store of another length, an empty store, a bad one, and the root put in.
+#[test]
+fn answers_changes() {
+    let zeros = |octets| "00".repeat(octets);
+    let input = format!(
+        "install - {ROOT} 1\nadmit (13568) {ROOT} 1\ninstall (13568) {ROOT} 2\n\
+         install (13567)01 {ROOT} 1\ninstall (13568) {ROOT} 256\ninstall (13568) {ROOT} 1\n"
+    );
+    for words in [&[][..], &["--reference"]] {
+        let lines = lines(words, input.as_bytes());
+        assert_eq!(lines[0], "1 -");
+        assert_eq!(lines[1], format!("10 {}", zeros(13_568)));
+        assert_eq!(lines[2], format!("15 {}", zeros(13_568)));
+        assert_eq!(lines[3], format!("2 {}01", zeros(13_567)));
+        assert_eq!(lines[4], "error");
+        // After id and issuer: state 01, kind 100, 32 bits of start 0, 38 of end
+        // 1,000, name length 000001, the name 01010010, and zeros.
+        let slot = format!("{ROOT_ID}{}60000000000000007d00a9{}", zeros(8), zeros(185));
+        assert_eq!(lines[5], format!("0 {slot}{}", zeros(13_568 - 212)));
+        assert_eq!(lines.len(), 6);
+    }
 }
 
 #[test]

@@ -1,9 +1,11 @@
 //! What the library does with the caller's buffer.
 
 use difftest::draft::Draft;
-use difftest::plan::Plan;
+use difftest::entry::{self, Entry, Slots, HELD};
+use difftest::plan::{Plan, ROOT};
 use difftest::random::Random;
 use difftest::sides::{self, Side};
+use difftest::slot::{SLOTS, SLOT_LENGTH, STORE_LENGTH};
 use nattveldi::raw;
 
 const BAD_CALL: u8 = 1;
@@ -118,4 +120,28 @@ fn answers_fill_the_buffers_front() {
     check_accepted(raw::id, |certificate| {
         sides::id(Side::Reference, certificate).id.to_vec()
     });
+}
+
+/// Of a store with one empty slot that slot is written and no other; what
+/// stands before the store and behind it in memory stays.
+#[test]
+fn one_slot_is_written() {
+    const AROUND: usize = 300;
+    let mut random = Random::new(5);
+    let plan = Plan::of_kind(ROOT, &mut random);
+    let certificate = Draft::of(&plan).encode().octets();
+    let id = sides::id(Side::Reference, &certificate).id;
+    let image = Entry::of(&plan, id, HELD).image();
+    let mut slots: Slots = std::array::from_fn(|_| Some(Entry::random(&mut random)));
+    for empty in 0..SLOTS {
+        let kept = slots[empty].take();
+        let mut memory = vec![FILLS[0]; STORE_LENGTH + 2 * AROUND];
+        memory[AROUND..][..STORE_LENGTH].copy_from_slice(&entry::store(&slots));
+        let mut expected = memory.clone();
+        expected[AROUND + empty * SLOT_LENGTH..][..SLOT_LENGTH].copy_from_slice(&image);
+        let store = &mut memory[AROUND..][..STORE_LENGTH];
+        assert_eq!(raw::install(store, &certificate, 1), 0, "slot {empty}");
+        assert!(memory == expected, "slot {empty}");
+        slots[empty] = kept;
+    }
 }

@@ -1,5 +1,5 @@
-//! The C header and the archive, used from C: `examples/read.c` is compiled,
-//! linked and run.
+//! The C header and the archive, used from C: the examples are compiled, linked
+//! and run.
 
 use std::env;
 use std::io::Write;
@@ -10,9 +10,9 @@ use difftest::seed::tell;
 
 const WARNINGS: [&str; 4] = ["-Wall", "-Wextra", "-Werror", "-pedantic"];
 
-/// The octets of `examples/ticket.hex`.
-fn ticket() -> Vec<u8> {
-    let path = root().join("examples/ticket.hex");
+/// The octets of an example certificate.
+fn example(name: &str) -> Vec<u8> {
+    let path = root().join("examples").join(name);
     let text = std::fs::read_to_string(&path)
         .unwrap_or_else(|error| panic!("{}: {error}", path.display()));
     let codes = text
@@ -42,15 +42,16 @@ fn compiler(variable: &str, usual: &str) -> Command {
     Command::new(env::var_os(variable).unwrap_or_else(|| usual.into()))
 }
 
-fn build_example() -> PathBuf {
-    let program = target("read-example");
+/// Compiles and links an example.
+fn build(name: &str) -> PathBuf {
+    let program = target(&format!("{name}-example"));
     let mut compiler = compiler("CC", "cc");
     compiler
         .args(WARNINGS)
         .args(["-std=c99", "-O2", "-I"])
         .arg(root().join("include"));
     compiler
-        .arg(root().join("examples/read.c"))
+        .arg(root().join(format!("examples/{name}.c")))
         .arg(archive())
         .arg("-o")
         .arg(&program);
@@ -92,8 +93,8 @@ id 8bfd66b112ae5f1b
 
 #[test]
 fn example_reads_a_ticket() {
-    let program = build_example();
-    let ticket = ticket();
+    let program = build("read");
+    let ticket = example("ticket.hex");
     let output = run(&program, &ticket);
     assert_eq!(String::from_utf8_lossy(&output.stdout), EXPECTED);
     assert_eq!(output.status.code(), Some(0));
@@ -115,6 +116,65 @@ fn example_reads_a_ticket() {
         );
         assert_eq!(output.status.code(), Some(1));
     }
+}
+
+/// The ids are from `sha256sum` over the octets, with the signature's point
+/// type as 0.
+const ROOT_AND_UNIT: &str = "\
+install 0
+admit 0
+admit 17
+admit 7
+slot 0 1e38b1de3f581532
+slot 1 30e658f573ab3a01
+";
+
+/// Below the root a unit goes in once; the ticket of the other example has
+/// another issuer.
+#[test]
+fn example_admits_a_ticket() {
+    let program = build("admit");
+    let file = |name: &str| {
+        let path = target(name).with_extension("octets");
+        std::fs::write(&path, example(name)).expect("a file of octets");
+        path
+    };
+    let [root, unit, ticket] = ["root.hex", "unit.hex", "ticket.hex"].map(file);
+    let run = |files: &[&PathBuf]| {
+        let output = Command::new(&program).args(files).output();
+        let output = output.expect("the example runs");
+        let text = String::from_utf8(output.stdout).expect("text");
+        (output.status.code(), text)
+    };
+    let all = run(&[&root, &unit, &unit, &ticket]);
+    assert_eq!(all, (Some(1), ROOT_AND_UNIT.to_string()));
+    let (status, text) = run(&[&root, &unit]);
+    assert_eq!(status, Some(0), "{text}");
+    let (status, text) = run(&[&unit, &root]);
+    assert_eq!((status, &text[..]), (Some(1), "install 10\nadmit 10\n"));
+}
+
+/// The header has the bindings' refusals under their names and numbers, and
+/// the length of a store. 15 has a longer name: "signature" is a field.
+#[test]
+fn header_has_the_numbers() {
+    let path = root().join("include/nattveldi.h");
+    let header = std::fs::read_to_string(path).expect("the header");
+    for refusal in nattveldi::Refusal::ALL {
+        let name = match refusal {
+            nattveldi::Refusal::Signature => "bad signature",
+            _ => refusal.name(),
+        };
+        let name = name.to_uppercase().replace(' ', "_");
+        let line = format!("    NATTVELDI_{name} = {}", refusal.number());
+        let ends = [",", " "].map(|end| header.contains(&format!("{line}{end}")));
+        assert!(ends.contains(&true), "the header lacks {line}");
+    }
+    let length = format!(
+        "#define NATTVELDI_STORE_LENGTH {}\n",
+        nattveldi::STORE_LENGTH
+    );
+    assert!(header.contains(&length), "the header lacks {length}");
 }
 
 #[test]

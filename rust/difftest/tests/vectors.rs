@@ -61,8 +61,19 @@ fn open_points() {
     assert_eq!(
         check("open-points.txt"),
         Counts {
-            answered: 27,
-            waiting: 51
+            answered: 28,
+            waiting: 50
+        }
+    );
+}
+
+#[test]
+fn operations() {
+    assert_eq!(
+        check("operations.txt"),
+        Counts {
+            answered: 69,
+            waiting: 229
         }
     );
 }

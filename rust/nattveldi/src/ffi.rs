@@ -15,6 +15,22 @@ mod c {
             id: *mut u8,
             id_length: usize,
         ) -> u8;
+
+        pub fn nattveldi_install(
+            store: *mut u8,
+            store_length: usize,
+            certificate: *const u8,
+            certificate_length: usize,
+            verdict: u8,
+        ) -> u8;
+
+        pub fn nattveldi_admit(
+            store: *mut u8,
+            store_length: usize,
+            certificate: *const u8,
+            certificate_length: usize,
+            verdict: u8,
+        ) -> u8;
     }
 }
 
@@ -40,6 +56,30 @@ pub fn id(certificate: &[u8], id: &mut [u8]) -> u8 {
             certificate.len(),
             id.as_mut_ptr(),
             id.len(),
+        )
+    }
+}
+
+pub fn install(store: &mut [u8], certificate: &[u8], verdict: u8) -> u8 {
+    unsafe {
+        c::nattveldi_install(
+            store.as_mut_ptr(),
+            store.len(),
+            certificate.as_ptr(),
+            certificate.len(),
+            verdict,
+        )
+    }
+}
+
+pub fn admit(store: &mut [u8], certificate: &[u8], verdict: u8) -> u8 {
+    unsafe {
+        c::nattveldi_admit(
+            store.as_mut_ptr(),
+            store.len(),
+            certificate.as_ptr(),
+            certificate.len(),
+            verdict,
         )
     }
 }

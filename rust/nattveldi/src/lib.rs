@@ -2,9 +2,11 @@
 //! (ETSI TS 103 097 V1.2.1).
 //!
 //! [`read`] takes a certificate apart and [`id`] works out its 8-octet id.
-//! Both take any octets of any length and either answer or give a
-//! [`Refusal`]. Nothing is copied out of the certificate: what the library
-//! found is named by [`Part`]s of the caller's octets.
+//! [`install`] puts a root into a store, and [`admit`] a certificate below an
+//! issuer that the store holds. All take any octets of any length and either
+//! answer or give a [`Refusal`]. Nothing is copied out of the certificate by
+//! reading: what the library found is named by [`Part`]s of the caller's
+//! octets.
 //!
 //! ```
 //! use nattveldi::{id, read, Kind, Refusal};
@@ -43,12 +45,15 @@ mod certificate;
 mod ffi;
 pub mod raw;
 mod refusal;
+mod store;
 
 pub use certificate::{
     Certificate, Kind, Part, Period, PeriodForm, Permission, PointType, PublicKey, Rectangle,
     Signature,
 };
+pub use raw::STORE_LENGTH;
 pub use refusal::Refusal;
+pub use store::{admit, empty_store, install};
 
 /// Reads a certificate.
 ///

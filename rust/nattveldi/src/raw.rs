@@ -12,6 +12,9 @@ pub const WORDS: usize = FIELDS_LENGTH / 4;
 /// How many octets [`id`] writes.
 pub const ID_LENGTH: usize = 8;
 
+/// How many octets a store has.
+pub const STORE_LENGTH: usize = 13_568;
+
 /// The most permissions that a certificate has.
 pub const MOST_PERMISSIONS: usize = 16;
 
@@ -74,6 +77,31 @@ pub fn read(certificate: &[u8], fields: &mut [u8]) -> u8 {
 /// ```
 pub fn id(certificate: &[u8], id: &mut [u8]) -> u8 {
     ffi::id(certificate, id)
+}
+
+/// Installs a root in the lowest empty slot of `store`. The answer is 1 if
+/// `store` has not 13,568 octets. In a refusal `store` stays as it was.
+///
+/// ```
+/// let mut store = [7; 100];
+/// assert_eq!(nattveldi::raw::install(&mut store, &[], 1), 1);
+/// assert_eq!(store, [7; 100]);
+/// ```
+pub fn install(store: &mut [u8], certificate: &[u8], verdict: u8) -> u8 {
+    ffi::install(store, certificate, verdict)
+}
+
+/// Admits a ticket or an authority to the lowest empty slot of `store`. The
+/// answer is 1 if `store` has not 13,568 octets. In a refusal `store` stays as
+/// it was.
+///
+/// ```
+/// let mut store = nattveldi::empty_store();
+/// assert_eq!(nattveldi::raw::admit(&mut store, &[], 1), 4);
+/// assert_eq!(store, nattveldi::empty_store());
+/// ```
+pub fn admit(store: &mut [u8], certificate: &[u8], verdict: u8) -> u8 {
+    ffi::admit(store, certificate, verdict)
 }
 
 /// The word at an index of what [`read`] wrote.

@@ -1,6 +1,9 @@
 //! The certificate (001, clause 6; document 01, "The certificate").
 
-use crate::constants::{CUT, MALFORMED, TOO_LONG, UNSUPPORTED};
+use crate::constants::{
+    AUTHORITY, CUT, MALFORMED, MAXIMUM_NAME, MAXIMUM_PERMISSIONS, MAXIMUM_RECTANGLES, ROOT, TICKET,
+    TOO_LONG, UNSUPPORTED,
+};
 use crate::octets::{Part, Reader};
 use crate::sha256::Sha256;
 
@@ -11,17 +14,11 @@ const SIGNER_SELF: u8 = 0;
 const SIGNER_DIGEST: u8 = 1;
 const DIGEST_LENGTH: usize = 8;
 
-const TICKET: u8 = 1;
-const AUTHORITY: u8 = 2;
-const ROOT: u8 = 4;
-const MAXIMUM_NAME: u8 = 32;
-
 const VERIFICATION_KEY: u8 = 0;
 const ENCRYPTION_KEY: u8 = 1;
 const ASSURANCE_LEVEL: u8 = 2;
 const ITS_AID_LIST: u8 = 32;
 const ITS_AID_SSP_LIST: u8 = 33;
-const MAXIMUM_PERMISSIONS: usize = 16;
 const MAXIMUM_SSP: usize = 31;
 
 const ECDSA_NISTP256: u8 = 0;
@@ -39,7 +36,6 @@ const REGION: u8 = 3;
 
 const REGION_NONE: u8 = 0;
 const REGION_RECTANGLES: u8 = 2;
-const MAXIMUM_RECTANGLES: usize = 4;
 
 /// An ITS-AID with its service specific permissions.
 #[derive(Clone, Copy, Debug, PartialEq, Eq, Default)]
@@ -159,7 +155,7 @@ pub fn id(octets: &[u8]) -> Result<[u8; 8], u8> {
 }
 
 /// HashedId8 (001, clause 4.2.12) of a certificate that ends where `octets` end.
-fn hashed_id(octets: &[u8], certificate: &Certificate) -> [u8; 8] {
+pub(crate) fn hashed_id(octets: &[u8], certificate: &Certificate) -> [u8; 8] {
     let point_type_at = certificate.signature.start + 1;
     let mut hash = Sha256::new();
     hash.update(&octets[..point_type_at]);
@@ -202,8 +198,8 @@ fn read_subject(reader: &mut Reader, certificate: &mut Certificate) -> Result<()
         return Err(MALFORMED);
     }
     // subject_name<2^8-1> has a length of one plain octet (001, clause 6.2 and table 1).
-    let length = reader.octet()?;
-    certificate.name = reader.run(usize::from(length))?;
+    let length = usize::from(reader.octet()?);
+    certificate.name = reader.run(length)?;
     if length > MAXIMUM_NAME {
         return Err(MALFORMED);
     }

@@ -1,4 +1,4 @@
-//! The answer numbers of document 01, "Order of checks".
+//! The numbers of document 01: its answers ("Order of checks"), and what several modules count by.
 
 pub const ACCEPTED: u8 = 0;
 pub const BAD_CALL: u8 = 1;
@@ -19,3 +19,35 @@ pub const SIGNATURE: u8 = 15;
 pub const FULL: u8 = 16;
 pub const ALREADY_HELD: u8 = 17;
 pub const CHAIN_TOO_LONG: u8 = 18;
+
+/// "Verdict bytes: 1 good, any other bad."
+pub const GOOD_VERDICT: u8 = 1;
+
+/// "Kinds read: 1 ticket, 2 authority, 4 root."
+pub const TICKET: u8 = 1;
+pub const AUTHORITY: u8 = 2;
+pub const ROOT: u8 = 4;
+
+/// "State 0 empty, 1 held, 2 withdrawn."
+pub const STATE_EMPTY: u8 = 0;
+pub const STATE_HELD: u8 = 1;
+pub const STATE_WITHDRAWN: u8 = 2;
+
+/// "13,568 octets: 64 slots of 212."
+pub const STORE_LENGTH: usize = 13_568;
+pub const SLOT_LENGTH: usize = 212;
+pub const SLOTS: usize = 64;
+
+/// "Name vector (0 to 32 octets)"
+pub const MAXIMUM_NAME: usize = 32;
+/// "2 with 1 to 4 rectangles"
+pub const MAXIMUM_RECTANGLES: usize = 4;
+/// "0 to 16 permissions"
+pub const MAXIMUM_PERMISSIONS: usize = 16;
+
+/// "The latest end is 4,294,967,295 + 8,191 × 31,556,925 = 262,777,739,970."
+pub const LATEST_END: u64 = 262_777_739_970;
+
+/// "-900,000,000 to 900,000,000 and -1,800,000,000 to 1,800,000,000"
+pub const LATITUDE_LIMIT: i32 = 900_000_000;
+pub const LONGITUDE_LIMIT: i32 = 1_800_000_000;

@@ -5,12 +5,30 @@
 
 #![forbid(unsafe_code)]
 
+mod admission;
 mod certificate;
 pub mod constants;
+mod decode;
+mod encode;
+mod ids;
+mod issue;
+mod layout;
 mod numbers;
 mod octets;
+mod record;
 mod sha256;
+mod store;
+mod unused;
+mod validity;
 
+pub use admission::{admit, install};
 pub use certificate::{id, read, Certificate, Permission, Rectangle};
+pub use constants::{SLOTS, SLOT_LENGTH, STORE_LENGTH};
+pub use decode::decode;
+pub use encode::encode;
+pub use issue::is_issued_by;
 pub use octets::Part;
+pub use record::Record;
 pub use sha256::sha256;
+pub use store::{find, slots, Slot};
+pub use validity::store_is_valid;

@@ -1,13 +1,10 @@
 //! The number fields of document 01, "Numbers, lengths and vectors".
 
-use crate::constants::{MALFORMED, UNSUPPORTED};
+use crate::constants::{LATITUDE_LIMIT, LONGITUDE_LIMIT, MALFORMED, UNSUPPORTED};
 use crate::octets::Reader;
 
 /// Seconds of each Duration unit (001, table 3); units 5 to 7 are undefined.
 const DURATION_UNITS: [u64; 5] = [1, 60, 3_600, 216_000, 31_556_925];
-
-const LATITUDE_LIMIT: i32 = 900_000_000;
-const LONGITUDE_LIMIT: i32 = 1_800_000_000;
 
 impl<'a> Reader<'a> {
     /// IntX (001, clause 4.2.1) of at most four octets, in its shortest form.

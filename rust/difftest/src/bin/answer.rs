@@ -18,6 +18,9 @@ library, or with --reference that of the independent reference.
   read CERT    NUMBER, and where it is 0 also KIND ISSUER NAME PARITY KEY
                ASSURANCE START END RECTANGLES PERMISSIONS SIGNATURE_AT
   id CERT      NUMBER ID
+  install STORE CERT VERDICT
+  admit STORE CERT VERDICT
+               NUMBER STORE
 
 A line that is unknown or does not parse is answered `error`. Blank lines, lines
 that start with # and lines that start with = are no requests and get no answer,

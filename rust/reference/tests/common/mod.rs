@@ -2,6 +2,8 @@
 
 #![allow(dead_code)] // each test file uses its own share
 
+pub mod stores;
+
 use reference::{read, Certificate};
 
 pub const ISSUER: [u8; 8] = [2; 8];

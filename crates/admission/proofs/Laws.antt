@@ -1,0 +1,18 @@
+-- What is proved of install and admit. Assumes nothing.
+use Rattle.admission.specs.Laws.{Laws}
+use Rattle.admission.proofs.Kept.{kept-of}
+use Rattle.admission.proofs.Exactly.{installed-exactly, admitted-exactly, refused-exactly, refused-first, refused-keeps}
+use Rattle.admission.proofs.After.{one-more, stays-valid}
+
+pub laws : Laws
+laws =
+    record {
+      kept = kept-of;
+      installed-exactly = installed-exactly;
+      admitted-exactly = admitted-exactly;
+      refused-exactly = refused-exactly;
+      refused-first = refused-first;
+      refused-keeps = refused-keeps;
+      one-more = one-more;
+      stays-valid = stays-valid;
+    }

@@ -1,0 +1,5 @@
+pub mod Places
+pub mod Lowest
+pub mod Found
+pub mod Stored
+pub mod Laws

@@ -1,0 +1,22 @@
+-- What is proved of validity (proofs/Laws.antt): the check in the paper's words.
+use Prim.Native.Nat.{ℕ, _<_}
+use mathlib.Core.Path.{_≡_}
+use mathlib.Core.Bool.{true}
+use mathlib.Core.List.{List}
+use mathlib.Core.Logic.{_↔_}
+use lib.ListN.{length}
+use Rattle.store.specs.Slots.{slotOf, filledAt, idAt}
+use Rattle.validity.specs.Good.{goodSlot}
+use Rattle.validity.specs.Valid.{validStore}
+
+pub record Valid (l : List ℕ) : Type 0 where
+  -- a store of the right length
+  pub size : length l ≡ 13568
+  -- each slot keeps the rules
+  pub slots : (i : ℕ) → i < 64 → goodSlot (slotOf l i) ≡ true
+  -- no two filled slots share an id
+  pub distinct : (i j : ℕ) → i < 64 → j < 64 → filledAt l i ≡ true → filledAt l j ≡ true → idAt l i ≡ idAt l j → i ≡ j
+
+pub record Laws : Type 0 where
+  -- the check passes those stores and no others
+  pub valid-exactly : (l : List ℕ) → (validStore l ≡ true) ↔ Valid l

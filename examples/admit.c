@@ -1,0 +1,65 @@
+/* Installs a root in an empty store, admits certificates below it, and prints
+ * each answer and then the filled slots. To build it, after
+ * `rt staticlib nattveldi_c` in the repository's root:
+ *
+ *   cc -std=c99 -Iinclude examples/admit.c target/staticlib/libnattveldi_c.a -o admit
+ *
+ * The example certificates are hex text with comments; as octets they come from
+ *
+ *   for name in root unit; do cut -d# -f1 examples/$name.hex | xxd -r -p > $name.octets; done
+ *   ./admit root.octets unit.octets
+ */
+#include <stdio.h>
+
+#include "nattveldi.h"
+
+/* One more than the longest certificate, so that a longer file is noticed. */
+#define MOST_OCTETS 1025
+#define SLOTS 64
+#define SLOT_LENGTH (NATTVELDI_STORE_LENGTH / SLOTS)
+/* The chip's octet for a good signature. Here no signature is checked. */
+#define GOOD 1
+
+static size_t read_file(const char *name, uint8_t *octets)
+{
+    size_t length;
+    FILE *file = fopen(name, "rb");
+    if (file == NULL)
+        return 0;
+    length = fread(octets, 1, MOST_OCTETS, file);
+    fclose(file);
+    return length;
+}
+
+/* A slot starts with the id, 8 octets, and the issuer's; its state is the next
+ * two bits: 0 empty, 1 held, 2 withdrawn. */
+static void print_slots(const uint8_t *store)
+{
+    int slot, i;
+    for (slot = 0; slot < SLOTS; slot++) {
+        const uint8_t *octets = store + slot * SLOT_LENGTH;
+        if (octets[16] >> 6 == 0)
+            continue;
+        printf("slot %d ", slot);
+        for (i = 0; i < 8; i++)
+            printf("%02x", octets[i]);
+        printf("%s\n", octets[16] >> 6 == 1 ? "" : " withdrawn");
+    }
+}
+
+int main(int count, char **names)
+{
+    static uint8_t store[NATTVELDI_STORE_LENGTH]; /* zeros: an empty store */
+    uint8_t certificate[MOST_OCTETS];
+    int i, refused = 0;
+    for (i = 1; i < count; i++) {
+        size_t length = read_file(names[i], certificate);
+        uint8_t number =
+            i == 1 ? nattveldi_install(store, sizeof store, certificate, length, GOOD)
+                   : nattveldi_admit(store, sizeof store, certificate, length, GOOD);
+        printf("%s %d\n", i == 1 ? "install" : "admit", number);
+        refused |= number != NATTVELDI_ACCEPTED;
+    }
+    print_slots(store);
+    return refused;
+}
