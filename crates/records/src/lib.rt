@@ -1,4 +1,5 @@
 // What a slot of the store holds: a record by value, and its image of 212 octets.
+mod layout; // where the fields of a slot start
 mod images; // a record becomes an image
 mod readings; // an image becomes a record
 

@@ -5,6 +5,23 @@ ghost use Rattle.records.specs.Records.{rectangleOf, regionOf, permissio
 use crate::Key;
 use crate::Name;
 use crate::Record;
+use crate::layout::END_AT;
+use crate::layout::FIRST_RECTANGLE_AT;
+use crate::layout::FOURTH_RECTANGLE_AT;
+use crate::layout::ID_AT;
+use crate::layout::ISSUER_AT;
+use crate::layout::KEY_AT;
+use crate::layout::KIND_AT;
+use crate::layout::NAME_AT;
+use crate::layout::NAME_LENGTH_AT;
+use crate::layout::PARITY_AT;
+use crate::layout::PERMISSION_COUNT_AT;
+use crate::layout::PERMISSIONS_AT;
+use crate::layout::RECTANGLE_COUNT_AT;
+use crate::layout::SECOND_RECTANGLE_AT;
+use crate::layout::START_AT;
+use crate::layout::STATE_AT;
+use crate::layout::THIRD_RECTANGLE_AT;
 use bitfields::arrays::get_octets8;
 use bitfields::arrays::get_octets32;
 use bitfields::arrays::get_words16;
@@ -34,12 +51,12 @@ fn decode_region(s: &[u8]) -> Region
     requires { ⌜ length (now s) ≡ 212 ⌝ }
     ensures { λ r. ⌜ r ≡ regionOf (now (s .entry)) ⌝ }
 {
-    let count = get8(s, 722, 3) as usize;
+    let count = get8(s, RECTANGLE_COUNT_AT, 3) as usize;
     let rectangles = [
-        rectangle_at(s, 725),
-        rectangle_at(s, 853),
-        rectangle_at(s, 981),
-        rectangle_at(s, 1109),
+        rectangle_at(s, FIRST_RECTANGLE_AT),
+        rectangle_at(s, SECOND_RECTANGLE_AT),
+        rectangle_at(s, THIRD_RECTANGLE_AT),
+        rectangle_at(s, FOURTH_RECTANGLE_AT),
     ];
     Region { count, rectangles }
 }
@@ -48,8 +65,8 @@ fn decode_permissions(s: &[u8]) -> Permissions
     requires { ⌜ length (now s) ≡ 212 ⌝ }
     ensures { λ r. ⌜ r ≡ permissionsOf (now (s .entry)) ⌝ }
 {
-    let count = get8(s, 1237, 5) as usize;
-    let values = get_words16(s, 1242, 28);
+    let count = get8(s, PERMISSION_COUNT_AT, 5) as usize;
+    let values = get_words16(s, PERMISSIONS_AT, 28);
     Permissions { count, values }
 }
 
@@ -58,9 +75,9 @@ pub fn decode_scope(s: &[u8]) -> Scope
     requires { ⌜ length (now s) ≡ 212 ⌝ }
     ensures { λ r. ⌜ r ≡ scopeOf (now (s .entry)) ⌝ }
 {
-    let kind = get8(s, 130, 3);
-    let start = get32(s, 133, 32);
-    let end = get(s, 165, 38);
+    let kind = get8(s, KIND_AT, 3);
+    let start = get32(s, START_AT, 32);
+    let end = get(s, END_AT, 38);
     let region = decode_region(s);
     let permissions = decode_permissions(s);
     Scope {
@@ -77,14 +94,14 @@ pub fn decode(s: &[u8]) -> Record
     requires { ⌜ length (now s) ≡ 212 ⌝ }
     ensures { λ r. ⌜ r ≡ recordOf (now (s .entry)) ⌝ }
 {
-    let id = get_octets8(s, 0);
-    let issuer = get_octets8(s, 64);
-    let state = get8(s, 128, 2);
+    let id = get_octets8(s, ID_AT);
+    let issuer = get_octets8(s, ISSUER_AT);
+    let state = get8(s, STATE_AT, 2);
     let scope = decode_scope(s);
-    let length = get8(s, 203, 6) as usize;
-    let name = get_octets32(s, 209);
-    let parity = get8(s, 465, 1);
-    let key = get_octets32(s, 466);
+    let length = get8(s, NAME_LENGTH_AT, 6) as usize;
+    let name = get_octets32(s, NAME_AT);
+    let parity = get8(s, PARITY_AT, 1);
+    let key = get_octets32(s, KEY_AT);
     Record {
         id,
         issuer,
