@@ -1,10 +1,12 @@
 /* Nattveldi: road certificates (ETSI TS 103 097 V1.2.1), proved in Rattle.
  *
- * Every function takes any octets and any lengths, always returns, and
- * answers one of the numbers below. It writes nothing but the buffer that it
- * names, and that only when it answers NATTVELDI_ACCEPTED. A pointer may be
- * anything if its length is 0; else it must be valid for that many octets,
- * and a buffer that is written must not overlap another argument.
+ * Every function takes any octets and any lengths and always returns. It
+ * answers one of the numbers below, but for two: nattveldi_list answers a
+ * count or minus one of the numbers, nattveldi_page the length of a text. It
+ * writes nothing but the buffer that it names, and in a refusal leaves that as
+ * it was, but for nattveldi_page, whose text says the refusal. A pointer may be
+ * anything if its length is 0; else it must be valid for that many octets, and
+ * a buffer that is written must not overlap another argument.
  */
 #ifndef NATTVELDI_H
 #define NATTVELDI_H
@@ -19,14 +21,14 @@ extern "C" {
 /* The answers. */
 enum {
     NATTVELDI_ACCEPTED = 0,
-    NATTVELDI_BAD_CALL = 1,         /* a buffer is too short, or a store is not 13,568 octets */
+    NATTVELDI_BAD_CALL = 1,         /* a buffer is too short, a store is not 13,568 octets, or an id not 8 */
     NATTVELDI_BAD_STORE = 2,        /* a store against its own rules */
     NATTVELDI_TOO_LONG = 3,         /* a certificate of more than 1,024 octets */
     NATTVELDI_CUT = 4,              /* a field or vector passes the end of what holds it */
     NATTVELDI_MALFORMED = 5,        /* against the layout's rules */
     NATTVELDI_UNSUPPORTED = 6,      /* a version, type or algorithm that is not read here */
-    NATTVELDI_UNKNOWN = 7,          /* the issuer is not in the store */
-    NATTVELDI_WITHDRAWN = 8,        /* the issuer is withdrawn */
+    NATTVELDI_UNKNOWN = 7,          /* the issuer, or the id that is asked for, is not in the store */
+    NATTVELDI_WITHDRAWN = 8,        /* the issuer, or the certificate under the id, is withdrawn */
     NATTVELDI_WRONG_KIND = 10,      /* a kind that the call does not take, or an issuer that is a ticket */
     NATTVELDI_NOT_PERMITTED = 11,   /* a permission that the issuer lacks */
     NATTVELDI_OUTSIDE_PERIOD = 12,  /* a period that is not inside the issuer's */
@@ -110,6 +112,48 @@ uint8_t nattveldi_install(uint8_t *store, size_t store_length,
 uint8_t nattveldi_admit(uint8_t *store, size_t store_length,
                         const uint8_t *certificate, size_t certificate_length,
                         uint8_t verdict);
+
+/* How many octets the list of a withdrawal needs: one for each slot. */
+#define NATTVELDI_LIST_LENGTH 64
+
+/* What the withdrawal of an id would take down: finds the certificates that
+ * stand at `second` as `store` is, and would not stand if the certificate under
+ * `id`, 8 octets, were withdrawn. A certificate stands if its chain of issuers
+ * reaches a root within eight certificates, each of them held, in its period
+ * and issued within the limits of the next. Writes their slot numbers,
+ * ascending, to the first octets of `list`; the octets behind them stay.
+ * Answers how many they are, 0 to 64, which is 0 if the certificate under `id`
+ * does not stand itself; or minus the number of the refusal: -1 if store_length
+ * is not 13,568, id_length not 8 or list_length under 64, then -2, -7, -8, in
+ * this order. In a refusal `list` stays as it was.
+ */
+int32_t nattveldi_list(const uint8_t *store, size_t store_length,
+                       const uint8_t *id, size_t id_length, uint32_t second,
+                       uint8_t *list, size_t list_length);
+
+/* Withdraws the certificate under `id`, 8 octets, for good: of `store`, the two
+ * bits of its state change, and no other. Answers 1 if store_length is not
+ * 13,568 or id_length not 8, then 2, 7, 8, in this order; in a refusal `store`
+ * stays as it was.
+ */
+uint8_t nattveldi_withdraw(uint8_t *store, size_t store_length,
+                           const uint8_t *id, size_t id_length);
+
+/* How many octets the text of a page needs; no text is longer. */
+#define NATTVELDI_PAGE_LENGTH 6144
+
+/* Writes the text that the program `page` prints when `input` is its standard
+ * input: a store, an id of 8 octets and a second of 4, big-endian, 13,580
+ * octets in all. The text is a line on the question, a line for each
+ * certificate that nattveldi_list finds (slot, id, kind, name) and one with
+ * their count; or `refused` and the number of the refusal, which is 1 for an
+ * input of another length. Every line ends with a line feed. The text is
+ * written to the first octets of `text`, without a zero at its end; the octets
+ * behind it stay. Answers its length, or 0 if text_length is under 6,144, and
+ * then `text` stays as it was.
+ */
+uint32_t nattveldi_page(const uint8_t *input, size_t input_length,
+                        uint8_t *text, size_t text_length);
 
 #ifdef __cplusplus
 }

@@ -1,9 +1,9 @@
 -- What the operations leave, return by return. Assumes nothing.
 use mathlib.Core.Path.{_≡_, refl, sym, ap, _∙_, subst}
-use mathlib.Core.Bool.{Bool, true, false, not}
+use mathlib.Core.Bool.{Bool, true, false}
 use mathlib.Core.List.{List}
 use mathlib.Core.Option.{none, some}
-use Prim.Native.Nat.{ℕ, _<_}
+use Prim.Native.Nat.{ℕ}
 use native.Mathlib.Omega.{arith}
 use lib.ListN.{length}
 use lib.Dec.{eqb}
@@ -17,13 +17,13 @@ use Rattle.certificate.specs.declared.operations.Reading.{Reading}
 use Rattle.certificate.proofs.Forward.{whole-forward}
 use Rattle.records.specs.Records.{imageOf}
 use Rattle.records.specs.declared.Record.{Record}
-use Rattle.store.specs.Slots.{withSlot, filledAt}
-use Rattle.store.proofs.Lowest.{lowest-found}
+use Rattle.store.specs.Slots.{withSlot}
 use Rattle.store.specs.Search.{lowestEmpty}
 use Rattle.validity.specs.Valid.{validStore}
+use Rattle.chain.specs.Stored.{slotOr}
 use Rattle.admission.specs.Readable.{accepted}
 use Rattle.admission.specs.Stored.{recordFrom}
-use Rattle.admission.specs.Order.{answered, wanted, slotOr, testing, testNumber, placing, entering, leaving, placed, entered}
+use Rattle.admission.specs.Order.{answered, wanted, testing, testNumber, placing, entering, leaving, placed, entered}
 use Rattle.admission.proofs.Tests.{test-gives, test-stops}
 
 -- ---- a record that is to go into the store
@@ -33,11 +33,6 @@ pair n l = (n, l)
 
 abbrev unreadable : ℕ → Answer Certificate
 unreadable n = refused n
-
--- an empty slot that is found is one of the 64
-pub empty-lt : (l : List ℕ) (i : ℕ) → lowestEmpty l ≡ some i → i < 64
-unfolding lowestEmpty
-empty-lt l i e = let r = lowest-found (λ j. not (filledAt l j)) 64 0 i e in omega (arith, r .below)
 
 abbrev stored : List ℕ → Record → ℕ → Steps (List ℕ)
 stored store r slot = done (withSlot store slot (imageOf r))

@@ -30,9 +30,10 @@ use Rattle.store.specs.Search.{find, lowestEmpty}
 use Rattle.store.proofs.Found.{find-finds, find-none, find-only, empty-finds, empty-none}
 use Rattle.validity.specs.Laws.{Valid}
 use Rattle.validity.proofs.Laws.{laws as valid-laws}
+use Rattle.chain.specs.Stored.{slotOr}
 use Rattle.admission.specs.Readable.{accepted}
 use Rattle.admission.specs.Stored.{recordFrom}
-use Rattle.admission.specs.Order.{answered, wanted, slotOr, absent, issuerSteps, entering, leaving, entered, installed, admitted}
+use Rattle.admission.specs.Order.{answered, wanted, absent, issuerSteps, entering, leaving, entered, installed, admitted}
 use Rattle.admission.specs.Admitted.{Holds, LowestEmpty, Entered, Issuer, Installed, Admitted}
 use Rattle.admission.proofs.Tests.{issuer-numbered, slot-named}
 use Rattle.admission.proofs.Entered.{read-gives}

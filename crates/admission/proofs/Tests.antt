@@ -3,7 +3,7 @@ use mathlib.Core.Path.{_≡_, refl, sym, ap, _∙_}
 use mathlib.Core.Bool.{Bool, true, false, not}
 use mathlib.Core.List.{List}
 use mathlib.Core.Option.{Option, none, some}
-use Prim.Native.Nat.{ℕ, zero, suc, _<_}
+use Prim.Native.Nat.{ℕ, zero, suc}
 use native.Mathlib.Omega.{arith}
 use lib.Dec.{eqb}
 use Rattle.order.specs.Steps.{Answer, gives, refused, number as answerNumber, Steps, done, need, take, needs, run, Named, Numbered, Well, well}
@@ -15,9 +15,9 @@ use Rattle.scope.proofs.Rows.{issued-alone}
 use Rattle.records.specs.Records.{scopeOf}
 use Rattle.records.specs.declared.Record.{Record}
 use Rattle.store.specs.Slots.{slotOf, withdrawnAt}
-use Rattle.store.specs.Search.{hasId, find}
-use Rattle.store.proofs.Lowest.{lowest-found}
-use Rattle.admission.specs.Order.{slotOr, absent, belowIssuer, belowNumber, issuerNumber, issuerSteps, issuerRefusal, testing, testNumber}
+use Rattle.store.specs.Search.{find}
+use Rattle.chain.specs.Stored.{slotOr}
+use Rattle.admission.specs.Order.{absent, belowIssuer, belowNumber, issuerNumber, issuerSteps, issuerRefusal, testing, testNumber}
 
 -- an answer that gives nothing but its passing is known by its number
 passed : (a : Answer Well) → Named a → answerNumber a ≡ 0 → a ≡ gives well
@@ -28,16 +28,6 @@ passed (refused (suc k)) n e = absurd (omega arith)
 stopped : (a : Answer Well) → ¬ (answerNumber a ≡ 0) → a ≡ refused (answerNumber a)
 stopped (gives w) n = absurd (n refl)
 stopped (refused k) n = refl
-
--- a test that was negated
-pub of-not : (x : Bool) {y : Bool} → not x ≡ y → x ≡ not y
-of-not true e = ap not e
-of-not false e = ap not e
-
--- a slot that is found is one of the 64
-pub find-lt : (l : List ℕ) (id i : ℕ) → find l id ≡ some i → i < 64
-unfolding find
-find-lt l id i e = let r = lowest-found (hasId l id) 64 0 i e in omega (arith, r .below)
 
 module _ (store : List ℕ) (subject : Scope) (i : ℕ) where
   pub below-withdrawn : withdrawnAt store i ≡ true → _≡_ {A = ℕ} 8 (belowNumber store subject i)

@@ -17,6 +17,7 @@ use Rattle.records.specs.Records.{scopeOf, imageOf}
 use Rattle.records.specs.declared.Record.{Record}
 use Rattle.store.specs.Slots.{storeLength, slotOf, withSlot, withdrawnAt}
 use Rattle.store.specs.Search.{find, lowestEmpty}
+use Rattle.chain.specs.Stored.{slotOr}
 use Rattle.validity.specs.Valid.{validStore}
 use Rattle.admission.specs.Stored.{recordFrom}
 
@@ -28,11 +29,6 @@ answered (unread n) = refused n
 -- install wants a root, admit a ticket or an authority
 abbrev pub wanted : Bool → ℕ → Bool
 wanted anchor kind = pick anchor (eqb kind 4) (eqb kind 1 || eqb kind 2)
-
--- a slot that was looked for, or a refusal
-abbrev pub slotOr : ℕ → Option ℕ → Answer ℕ
-slotOr k none = refused k
-slotOr k (some i) = gives i
 
 abbrev pub absent : Option ℕ → Bool
 absent none = true

@@ -6,3 +6,7 @@ pub use certificate::operations::Identified;
 pub use certificate::operations::Reading;
 pub use certificate::operations::id;
 pub use certificate::operations::read;
+pub use page_text::page;
+pub use withdrawal::Listed;
+pub use withdrawal::list;
+pub use withdrawal::withdraw;

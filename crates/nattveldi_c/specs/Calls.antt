@@ -3,13 +3,15 @@ use Prim.Native.Nat.{ℕ}
 use mathlib.Core.List.{List}
 use lib.ListN.{length}
 use lib.Dec.{ltb, eqb}
+use lib.IntN.{ℤ, pos, negℤ}
 use Rattle.octets.specs.Refusals.{ACCEPTED, BAD-CALL}
 use Rattle.octets.specs.Reading.{pick}
 use Rattle.octets.specs.Buffers.{withFront}
 use Rattle.certificate.specs.Operations.{readingOf, idOf}
 use Rattle.certificate.specs.declared.operations.Reading.{Reading}
 use Rattle.certificate.specs.declared.operations.Identified.{Identified}
-use Rattle.nattveldi_c.specs.Fields.{withFields}
+use Rattle.field_words.specs.Fields.{withFields}
+use Rattle.withdrawal.specs.Order.{Listing, page}
 
 abbrev pub Call : Type 0
 Call = ℕ × List ℕ
@@ -25,3 +27,10 @@ idAnswer r buffer = pick (eqb (r .number) ACCEPTED) (ACCEPTED, withFront (r .id)
 
 unfoldable pub idCall : List ℕ → List ℕ → Call
 idCall certificate buffer = pick (ltb (length buffer) 8) (BAD-CALL, buffer) (idAnswer (idOf certificate) buffer)
+
+-- how many slots the list names, or minus the number of the refusal; then the list and the store as they are left
+abbrev pub listAnswer : Listing → ℤ × List ℕ × List ℕ
+listAnswer p = (pick (eqb (p .number) ACCEPTED) (pos (p .n)) (negℤ (pos (p .number))), p .list, p .store)
+
+unfoldable pub listCall : List ℕ → List ℕ → ℕ → List ℕ → ℤ × List ℕ × List ℕ
+listCall store id second list = listAnswer (page store id second list)

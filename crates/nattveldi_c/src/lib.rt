@@ -1,13 +1,13 @@
 // The C interface (include/nattveldi.h): numbers and octet slices. A buffer that is too short is a bad call.
-mod words; // words of four octets in a buffer
-mod fields; // the fields of a certificate as words
-
 ghost use mathlib.Core.Path.{_≡_};
 ghost use mathlib.Core.List.{List};
 ghost use Prim.Native.Nat.{ℕ};
+ghost use lib.IntN.{ℤ};
 ghost use Rattle.admission.specs.Order.{installed, admitted};
-ghost use Rattle.nattveldi_c.specs.Calls.{readCall, idCall};
-use fields::write_fields;
+ghost use Rattle.withdrawal.specs.Order.{withdrawal};
+ghost use Rattle.page_text.specs.Page.{pageCall};
+ghost use Rattle.nattveldi_c.specs.Calls.{readCall, idCall, listCall};
+use field_words::write_fields;
 use octets::buffers::write_front;
 use octets::refusals::ACCEPTED;
 use octets::refusals::BAD_CALL;
@@ -58,4 +58,29 @@ pub extern "C" fn nattveldi_admit(store: &mut [u8], certificate: &[u8], verdict:
     ensures { λ r. ⌜ _≡_ {A = ℕ × List ℕ} (r, now (store .exit)) (admitted (now (store .entry)) (now (certificate .entry)) verdict) ⌝ }
 {
     nattveldi::admit(store, certificate, verdict)
+}
+
+#[no_mangle]
+pub extern "C" fn nattveldi_list(store: &[u8], id: &[u8], second: u32, list: &mut [u8]) -> i32
+    ensures { λ r. ⌜ _≡_ {A = ℤ × List ℕ × List ℕ} (r, now (list .exit), now (store .exit)) (listCall (now (store .entry)) (now (id .entry)) second (now (list .entry))) ⌝ }
+{
+    let listed = nattveldi::list(store, id, second, list);
+    if listed.number != ACCEPTED {
+        return -(listed.number as i32);
+    }
+    listed.n as i32
+}
+
+#[no_mangle]
+pub extern "C" fn nattveldi_withdraw(store: &mut [u8], id: &[u8]) -> u8
+    ensures { λ r. ⌜ _≡_ {A = ℕ × List ℕ} (r, now (store .exit)) (withdrawal (now (store .entry)) (now (id .entry))) ⌝ }
+{
+    nattveldi::withdraw(store, id)
+}
+
+#[no_mangle]
+pub extern "C" fn nattveldi_page(input: &[u8], text: &mut [u8]) -> u32
+    ensures { λ r. ⌜ _≡_ {A = ℕ × List ℕ} (r, now (text .exit)) (pageCall (now (input .entry)) (now (text .entry))) ⌝ }
+{
+    nattveldi::page(input, text)
 }

@@ -48,3 +48,6 @@ FULL = 16
 
 abbrev pub ALREADY-HELD : ℕ
 ALREADY-HELD = 17
+
+abbrev pub CHAIN-TOO-LONG : ℕ
+CHAIN-TOO-LONG = 18

@@ -30,3 +30,5 @@ pub const BAD_SIGNATURE: u8 = 15;
 pub const FULL: u8 = 16;
 
 pub const ALREADY_HELD: u8 = 17;
+
+pub const CHAIN_TOO_LONG: u8 = 18;

@@ -8,23 +8,11 @@ use native.Mathlib.Omega.{arith}
 use mathlib.Core.List.{List}
 use lib.Dec.{eqb}
 use borrow.Author.Tests.{eqb-true, eq-eqb}
+use Rattle.geo.proofs.Bools.{and-split, of-not}
 use Rattle.store.specs.Slots.{EMPTY, stateAt, filledAt, idAt}
 use Rattle.store.specs.Search.{hasId, find, lowestEmpty}
 use Rattle.store.specs.Laws.{Distinct}
 use Rattle.store.proofs.Lowest.{lowest-found, lowest-none}
-
-both : (x y : Bool) → x && y ≡ true → (x ≡ true) × (y ≡ true)
-both true y e = (refl, e)
-both false y e = let z : _≡_ {A = ℕ} 0 1 = cc in absurd (omega arith)
-
--- a test that is negated
-was-true : (x : Bool) → not x ≡ false → x ≡ true
-was-true true e = refl
-was-true false e = let z : _≡_ {A = ℕ} 0 1 = cc in absurd (omega arith)
-
-not-not : (x : Bool) → not (not x) ≡ true → x ≡ true
-not-not true e = refl
-not-not false e = let z : _≡_ {A = ℕ} 0 1 = cc in absurd (omega arith)
 
 -- ---- by id
 
@@ -32,7 +20,7 @@ pub find-finds : (l : List ℕ) (id i : ℕ) → find l id ≡ some i → (i < 6
 unfolding find
 find-finds l id i e =
     let f = lowest-found (hasId l id) 64 0 i e in
-    let t = both (filledAt l i) (eqb (idAt l i) id) (f .passes) in
+    let t = and-split (filledAt l i) (eqb (idAt l i) id) (f .passes) in
     (omega (arith, f .below), t .0, eqb-true (idAt l i) id (t .1))
 
 pub find-none : (l : List ℕ) (id : ℕ) → find l id ≡ none → (i : ℕ) → i < 64 → filledAt l i ≡ true → idAt l i ≢ id
@@ -60,10 +48,10 @@ unfolding lowestEmpty
 empty-finds l i e =
     let f = lowest-found (λ k. not (filledAt l k)) 64 0 i e in (
       omega (arith, f .below),
-      eqb-true (stateAt l i) EMPTY (not-not (eqb (stateAt l i) EMPTY) (f .passes)),
-      λ j h. was-true (filledAt l j) (f .none-below j (omega arith) h),
+      eqb-true (stateAt l i) EMPTY (of-not (eqb (stateAt l i) EMPTY) (of-not (filledAt l i) (f .passes))),
+      λ j h. of-not (filledAt l j) (f .none-below j (omega arith) h),
     )
 
 pub empty-none : (l : List ℕ) → lowestEmpty l ≡ none → (i : ℕ) → i < 64 → filledAt l i ≡ true
 unfolding lowestEmpty
-empty-none l e i h = was-true (filledAt l i) (lowest-none (λ k. not (filledAt l k)) 64 0 e i (omega arith) (omega arith))
+empty-none l e i h = of-not (filledAt l i) (lowest-none (λ k. not (filledAt l k)) 64 0 e i (omega arith) (omega arith))

@@ -5,7 +5,7 @@ use mathlib.Core.List.{List, _++_}
 use lib.ListN.{take, drop}
 use lib.Dec.{eqb}
 use Rattle.bitfields.specs.Field.{field}
-use Rattle.records.specs.Layout.{ID, STATE, valueOf}
+use Rattle.records.specs.Layout.{ID, ISSUER, STATE, PERMISSIONS, valueOf, valuesOf}
 
 abbrev pub storeLength : ℕ
 storeLength = 13568
@@ -40,3 +40,11 @@ withdrawnAt l i = eqb (stateAt l i) GONE
 -- the id of a slot, its eight octets as one number
 unfoldable pub idAt : List ℕ → ℕ → ℕ
 idAt l i = field (slotOf l i) (ID .bit) 64
+
+-- the id of its issuer, in the same way
+unfoldable pub issuerAt : List ℕ → ℕ → ℕ
+issuerAt l i = field (slotOf l i) (ISSUER .bit) 64
+
+-- all that stands in its places for permissions
+abbrev pub permissionsAt : List ℕ → ℕ → List ℕ
+permissionsAt l i = valuesOf (slotOf l i) PERMISSIONS

@@ -5,7 +5,9 @@ use mathlib.Core.Bool.{true}
 use mathlib.Core.List.{List}
 use mathlib.Core.Logic.{_↔_}
 use lib.ListN.{length}
-use Rattle.store.specs.Slots.{slotOf, filledAt, idAt}
+use Rattle.bitfields.specs.Field.{Octets}
+use Rattle.store.specs.Slots.{GONE, slotOf, filledAt, idAt}
+use Rattle.store.specs.Laws.{withState}
 use Rattle.validity.specs.Good.{goodSlot}
 use Rattle.validity.specs.Valid.{validStore}
 
@@ -20,3 +22,5 @@ pub record Valid (l : List ℕ) : Type 0 where
 pub record Laws : Type 0 where
   -- the check passes those stores and no others
   pub valid-exactly : (l : List ℕ) → (validStore l ≡ true) ↔ Valid l
+  -- a stored certificate that is withdrawn leaves a valid store valid
+  pub withdrawn : (l : List ℕ) (c : ℕ) → Octets l → Valid l → c < 64 → filledAt l c ≡ true → Valid (withState l c GONE)

@@ -2,23 +2,29 @@
 use Prim.Native.Nat.{ℕ}
 use mathlib.Core.Path.{_≡_}
 use mathlib.Core.List.{List, [], _∷_}
+use lib.ListN.{replicate}
 use lib.IntN.{ℤ, pos, negℤ}
 use Rattle.octets.specs.Refusals.{MALFORMED, UNSUPPORTED}
 use Rattle.octets.specs.Reading.{Out, got, refused}
 use Rattle.octets.specs.Numbers.{intxAt}
 use Rattle.octets.specs.Durations.{durationAt}
 use Rattle.octets.specs.Coordinates.{latitudeAt}
+use Rattle.withdrawal.specs.Order.{written, page}
+use Rattle.worked_numbers.specs.Example.{shown}
 
--- octets, and the value with the number of octets read, or the refusal
+-- octets, and the value with the number of octets read, or the refusal;
 pub data Case : Type 0 where
   intx : List ℕ → Out ℕ → Case
   duration : List ℕ → Out ℕ → Case
   latitude : List ℕ → Out ℤ → Case
+  -- a store, an id and a second, and the slots on the page's list
+  listing : List ℕ → List ℕ → ℕ → List ℕ → Case
 
 abbrev pub Holds : Case → Type 0
 Holds (intx s answer) = intxAt s 0 ≡ answer
 Holds (duration s answer) = durationAt s 0 ≡ answer
 Holds (latitude s answer) = latitudeAt s 0 ≡ answer
+Holds (listing store id second slots) = page store id second (replicate 64 0) ≡ written slots (replicate 64 0) store
 
 abbrev pub AllHold : List Case → Type 0
 AllHold [] = Unit
@@ -36,4 +42,5 @@ table =
     duration (0x20 ∷ 0x01 ∷ []) (got 60 2) ∷
     duration (0x60 ∷ 0x02 ∷ []) (got 432000 2) ∷
     duration (0xA0 ∷ 0x00 ∷ []) (refused MALFORMED) ∷
-    latitude (0xFF ∷ 0xFF ∷ 0xFF ∷ 0xFF ∷ []) (got (negℤ (pos 1)) 4) ∷ []
+    latitude (0xFF ∷ 0xFF ∷ 0xFF ∷ 0xFF ∷ []) (got (negℤ (pos 1)) 4) ∷
+    listing shown (replicate 8 0x02) 220 (1 ∷ 2 ∷ []) ∷ []

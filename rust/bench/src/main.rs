@@ -3,6 +3,8 @@
 #![deny(unsafe_code)]
 
 mod certificates;
+mod chain_set;
+mod chains;
 mod digests;
 #[allow(unsafe_code)]
 mod ffi;
@@ -58,7 +60,8 @@ fn main() -> ExitCode {
 /// Both sides must agree on all inputs before anything is timed.
 fn bench(rounds: usize) {
     let certificates = set::certificates(SEED);
-    let stores = stores::rows(SEED);
+    let mut stores = stores::rows(SEED);
+    stores.extend(chains::rows(SEED));
     let messages = digests::sets(SEED);
     let mut contests: Vec<Contest> = certificates
         .iter()

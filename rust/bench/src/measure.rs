@@ -3,24 +3,26 @@
 use std::hint::black_box;
 use std::time::{Duration, Instant};
 
-use nattveldi::raw::{FIELDS_LENGTH, STORE_LENGTH};
+use nattveldi::raw::{PAGE_LENGTH, STORE_LENGTH};
 
 use crate::set::Set;
 
-/// What a call may write to; it is not cleared between calls.
-pub type Buffer = [u8; FIELDS_LENGTH];
+/// What a call may write to, as long as the longest answer; it is not cleared
+/// between calls.
+pub type Buffer = [u8; PAGE_LENGTH];
 
 /// Reads an input.
 pub type Read = fn(&[u8], &mut Buffer);
 
-/// Changes a store: store, certificate, verdict.
+/// Changes a store: store, what stands behind it, verdict.
 pub type Change = fn(&mut [u8], &[u8], u8) -> u8;
 
 /// What a side does with each input.
 #[derive(Clone, Copy)]
 pub enum Work {
     Reads(Read),
-    /// The input is a store and a certificate behind it, with a good verdict.
+    /// The input is a store and what is asked behind it, a certificate or an
+    /// id; the verdict is good.
     Changes(Change),
 }
 
@@ -74,7 +76,7 @@ fn time(work: Work, set: &Set) -> f64 {
 }
 
 fn reading(read: Read, set: &Set) -> Duration {
-    let mut buffer: Buffer = [0; FIELDS_LENGTH];
+    let mut buffer: Buffer = [0; PAGE_LENGTH];
     let start = Instant::now();
     for input in &set.inputs {
         read(input, &mut buffer);
@@ -88,8 +90,8 @@ fn changing(change: Change, set: &Set) -> Duration {
     let mut inputs = set.inputs.clone();
     let start = Instant::now();
     for input in &mut inputs {
-        let (store, certificate) = input.split_at_mut(STORE_LENGTH);
-        black_box(change(store, certificate, 1));
+        let (store, rest) = input.split_at_mut(STORE_LENGTH);
+        black_box(change(store, rest, 1));
         black_box(store);
     }
     start.elapsed()

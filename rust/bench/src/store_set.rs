@@ -104,8 +104,5 @@ fn small(random: &mut Random) -> Entry {
 
 /// The entries in random slots.
 fn store(entries: Vec<Entry>, random: &mut Random) -> Vec<u8> {
-    let mut slots: Vec<Option<Entry>> = entries.into_iter().map(Some).collect();
-    slots.resize(SLOTS, None);
-    issuers::shuffle(&mut slots, random);
-    entry::store(&slots.try_into().expect("as many slots as a store has"))
+    entry::store(&entry::in_any_slots(entries, random))
 }

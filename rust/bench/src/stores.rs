@@ -25,6 +25,15 @@ pub struct Row {
 }
 
 impl Row {
+    /// The works are the library's and the reference's.
+    pub fn new(operation: &'static str, set: Set, works: [Work; 2]) -> Row {
+        Row {
+            operation,
+            set,
+            works,
+        }
+    }
+
     pub fn contest(&self) -> Contest<'_> {
         Contest::of(self.operation, &self.set, self.works)
     }

@@ -4,6 +4,8 @@ use nattveldi::raw::{word_at, ACCEPTED};
 
 use crate::changes::Changed;
 use crate::hex;
+use crate::lists::Listed;
+use crate::pages;
 use crate::requests::{self, Request};
 use crate::sides::{self, Id, Reading, Side};
 
@@ -24,6 +26,9 @@ pub fn to_request(side: Side, request: &Request) -> String {
         Request::Read { certificate } => reading(certificate, &sides::read(side, certificate)),
         Request::Id { certificate } => id(&sides::id(side, certificate)),
         Request::Change(change) => changed(&change.ask(side)),
+        Request::List(list) => listed(&list.ask(side)),
+        Request::Withdraw(withdrawal) => changed(&withdrawal.ask(side)),
+        Request::Page { input } => hex::text(pages::ask(side, input).text()),
     }
 }
 
@@ -35,6 +40,12 @@ fn id(answer: &Id) -> String {
 /// `NUMBER STORE`
 fn changed(answer: &Changed) -> String {
     format!("{} {}", answer.number, hex::text(&answer.store))
+}
+
+/// `NUMBER N LIST`
+fn listed(answer: &Listed) -> String {
+    let Listed { number, n, list } = answer;
+    format!("{number} {n} {}", hex::text(list))
 }
 
 /// `NUMBER`, and where it is 0 also `KIND ISSUER NAME PARITY KEY ASSURANCE

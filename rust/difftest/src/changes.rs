@@ -50,6 +50,6 @@ fn call(side: Side, operation: Operation) -> Call {
     }
 }
 
-fn number(result: Result<(), Refusal>) -> u8 {
+pub fn number(result: Result<(), Refusal>) -> u8 {
     result.err().map_or(ACCEPTED, Refusal::number)
 }

@@ -1,5 +1,7 @@
 //! The sides held against each other, field by field.
 
+pub mod withdrawal;
+
 use nattveldi::raw::{word_at, WORDS};
 
 use crate::changes::{Change, Changed};

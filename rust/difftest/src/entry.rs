@@ -86,6 +86,23 @@ impl Entry {
     }
 }
 
+/// The entries in the slots that stand beside them, the other slots empty.
+pub fn at(places: impl IntoIterator<Item = (usize, Entry)>) -> Slots {
+    let mut slots: Slots = std::array::from_fn(|_| None);
+    for (slot, entry) in places {
+        slots[slot] = Some(entry);
+    }
+    slots
+}
+
+/// The entries in random slots, the other slots empty.
+pub fn in_any_slots(entries: Vec<Entry>, random: &mut Random) -> Slots {
+    let mut slots: Vec<Option<Entry>> = entries.into_iter().map(Some).collect();
+    slots.resize(SLOTS, None);
+    random.shuffle(&mut slots);
+    slots.try_into().expect("as many slots as a store has")
+}
+
 /// The octets of a store.
 pub fn store(slots: &Slots) -> Vec<u8> {
     let image = |slot: &Option<Entry>| slot.as_ref().map_or([0; SLOT_LENGTH], Entry::image);

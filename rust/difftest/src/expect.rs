@@ -15,9 +15,7 @@ pub fn number(operation: Operation, slots: &Slots, subject: &Entry, verdict: u8)
         return 17;
     }
     if operation == Operation::Admit {
-        let issuer = find(slots, subject.issuer);
-        let refusal = issuer.map_or(Some(7), |issuer| below(subject, issuer));
-        if let Some(number) = refusal {
+        if let Err(number) = below(slots, subject) {
             return number;
         }
     }
@@ -33,24 +31,32 @@ pub fn lowest_empty(slots: &Slots) -> Option<usize> {
     slots.iter().position(Option::is_none)
 }
 
-fn find(slots: &Slots, id: [u8; 8]) -> Option<&Entry> {
+pub fn find(slots: &Slots, id: [u8; 8]) -> Option<&Entry> {
     slots.iter().flatten().find(|entry| entry.id == id)
 }
 
-fn below(subject: &Entry, issuer: &Entry) -> Option<u8> {
-    let lacks = |permission| !issuer.permissions.contains(permission);
+fn below(slots: &Slots, subject: &Entry) -> Result<(), u8> {
+    let issuer = find(slots, subject.issuer).ok_or(7)?;
     if issuer.state == WITHDRAWN {
-        Some(8)
-    } else if issuer.kind == TICKET {
-        Some(10)
+        return Err(8);
+    }
+    issued(subject, issuer)
+}
+
+/// "Issuer of kind 1, 10; a permission absent from the issuer's, 11; period not
+/// inside the issuer's, 12; region not inside, 13."
+pub fn issued(subject: &Entry, issuer: &Entry) -> Result<(), u8> {
+    let lacks = |permission| !issuer.permissions.contains(permission);
+    if issuer.kind == TICKET {
+        Err(10)
     } else if subject.permissions.iter().any(lacks) {
-        Some(11)
+        Err(11)
     } else if subject.start < issuer.start || subject.end > issuer.end {
-        Some(12)
+        Err(12)
     } else if !region_inside(&subject.rectangles, &issuer.rectangles) {
-        Some(13)
+        Err(13)
     } else {
-        None
+        Ok(())
     }
 }
 

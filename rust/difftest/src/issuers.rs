@@ -4,8 +4,6 @@ use crate::entry::{Entry, HELD};
 use crate::plan::{self, Plan, Rectangle, AUTHORITY, MOST_LATITUDE, MOST_LONGITUDE, ROOT};
 use crate::random::Random;
 
-/// The latest end of a period.
-const LATEST: u64 = 262_777_739_970;
 const MOST_PERMISSIONS: usize = 16;
 const MOST_RECTANGLES: usize = 4;
 
@@ -31,7 +29,7 @@ fn more(random: &mut Random, most: i64) -> i64 {
 fn around(plan: &Plan, random: &mut Random) -> (u32, u64) {
     let (start, end) = plan.period.seconds();
     let start = start as i64 - more(random, start as i64);
-    let end = end as i64 + more(random, (LATEST - end) as i64);
+    let end = end as i64 + more(random, (plan::LATEST_END - end) as i64);
     (start as u32, end as u64)
 }
 
@@ -44,7 +42,7 @@ pub fn permissions_above(plan: &Plan, random: &mut Random) -> Vec<u32> {
     for _ in 0..random.below(room + 1) {
         permissions.push(plan::its_aid(random));
     }
-    shuffle(&mut permissions, random);
+    random.shuffle(&mut permissions);
     permissions
 }
 
@@ -58,7 +56,7 @@ fn region_around(plan: &Plan, random: &mut Random) -> Vec<Rectangle> {
     if rectangles.len() < MOST_RECTANGLES && random.once_in(2) {
         rectangles.push(plan::rectangle(random));
     }
-    shuffle(&mut rectangles, random);
+    random.shuffle(&mut rectangles);
     rectangles
 }
 
@@ -71,10 +69,4 @@ fn larger([north, west, south, east]: Rectangle, random: &mut Random) -> Rectang
         south - room(south, MOST_LATITUDE),
         east + room(east, MOST_LONGITUDE),
     ]
-}
-
-pub fn shuffle<T>(items: &mut [T], random: &mut Random) {
-    for i in (1..items.len()).rev() {
-        items.swap(i, random.below(i + 1));
-    }
 }

@@ -6,11 +6,15 @@
 //!   layout, [`wire`] its octets; [`faults`] breaks the layout, [`damage`] the
 //!   octets; [`generate`] chooses among all of these.
 //! - Random stores: [`slot`] has a slot's bits, [`mod@entry`] what they say;
-//!   [`scene`] makes up a request to put a certificate into a store, below an
-//!   issuer of [`issuers`] or, in a store that grows, of [`growth`];
-//!   [`troubles`] has the reasons to refuse it, [`expect`] the paper's answer.
-//! - [`sides`] and [`changes`] ask a side, [`compare`] holds the sides against
-//!   each other.
+//!   [`spoil`] damages its octets.
+//! - Putting a certificate in: [`scene`] makes up a request, below an issuer of
+//!   [`issuers`] or, in a store that grows, of [`growth`]; [`troubles`] has the
+//!   reasons to refuse it, [`expect`] the paper's answer.
+//! - Withdrawing one: [`forest`] makes up a store of chains, [`flaws`] breaks
+//!   them, [`questions`] asks about one of its certificates; [`standing`] says
+//!   what stands, [`outcome`] is the paper's answer.
+//! - [`sides`], [`changes`], [`lists`], [`withdrawals`] and [`pages`] ask a
+//!   side, [`compare`] holds the sides against each other.
 
 pub mod answers;
 pub mod changes;
@@ -20,17 +24,26 @@ pub mod draft;
 pub mod entry;
 pub mod expect;
 pub mod faults;
+pub mod flaws;
+pub mod forest;
 pub mod generate;
 pub mod growth;
 pub mod hex;
 pub mod issuers;
+pub mod lists;
+pub mod outcome;
+pub mod pages;
 pub mod plan;
+pub mod questions;
 pub mod random;
 pub mod requests;
 pub mod scene;
 pub mod seed;
 pub mod sides;
 pub mod slot;
+pub mod spoil;
+pub mod standing;
 pub mod troubles;
 pub mod vectors;
 pub mod wire;
+pub mod withdrawals;

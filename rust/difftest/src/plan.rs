@@ -16,6 +16,8 @@ pub const MOST_INTX: u32 = 268_435_455;
 /// Seconds of each unit of a duration.
 pub const UNITS: [u64; 5] = [1, 60, 3_600, 216_000, 31_556_925];
 pub const MOST_DURATION_COUNT: u16 = 8_191;
+/// The latest end of a period.
+pub const LATEST_END: u64 = 262_777_739_970;
 
 const SIGNATURE_LENGTH: usize = 66;
 
@@ -266,7 +268,7 @@ mod tests {
         assert_eq!(Period::StartAndDuration(5, 0x6002).seconds(), (5, 432_005));
         assert_eq!(
             Period::StartAndDuration(u32::MAX, 0x9fff).seconds(),
-            (4_294_967_295, 262_777_739_970)
+            (4_294_967_295, LATEST_END)
         );
         assert_eq!(Period::End(7).seconds(), (0, 7));
     }

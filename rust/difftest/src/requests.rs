@@ -1,7 +1,11 @@
 //! Request lines, in the format of `vectors/README.md`.
 
+use std::str::FromStr;
+
 use crate::changes::{Change, Operation};
 use crate::hex;
+use crate::lists::List;
+use crate::withdrawals::Withdrawal;
 
 /// A request that is answered.
 #[derive(Debug, PartialEq)]
@@ -9,6 +13,9 @@ pub enum Request {
     Read { certificate: Vec<u8> },
     Id { certificate: Vec<u8> },
     Change(Change),
+    List(List),
+    Withdraw(Withdrawal),
+    Page { input: Vec<u8> },
 }
 
 /// Why a line is not answered.
@@ -30,11 +37,11 @@ const KINDS: [(&str, Option<Parser>); 9] = [
     ("id", Some(id)),
     ("install", Some(install)),
     ("admit", Some(admit)),
-    ("list", None),
-    ("withdraw", None),
+    ("list", Some(list)),
+    ("withdraw", Some(withdraw)),
     ("prepare", None),
     ("decide", None),
-    ("page", None),
+    ("page", Some(page)),
 ];
 
 /// Takes a request line apart.
@@ -79,12 +86,39 @@ fn change(operation: Operation, words: &[&str]) -> Option<Request> {
         operation,
         store: hex::octets(store)?,
         certificate: hex::octets(certificate)?,
-        verdict: octet(verdict)?,
+        verdict: number(verdict)?,
     }))
 }
 
-/// A decimal number of up to 255, without a sign.
-fn octet(digits: &str) -> Option<u8> {
+fn list(words: &[&str]) -> Option<Request> {
+    let [store, id, second, list] = words else {
+        return None;
+    };
+    Some(Request::List(List {
+        store: hex::octets(store)?,
+        id: hex::octets(id)?,
+        second: number(second)?,
+        list: hex::octets(list)?,
+    }))
+}
+
+fn withdraw(words: &[&str]) -> Option<Request> {
+    let [store, id] = words else { return None };
+    Some(Request::Withdraw(Withdrawal {
+        store: hex::octets(store)?,
+        id: hex::octets(id)?,
+    }))
+}
+
+fn page(words: &[&str]) -> Option<Request> {
+    let [input] = words else { return None };
+    Some(Request::Page {
+        input: hex::octets(input)?,
+    })
+}
+
+/// A decimal number that its type holds, without a sign.
+fn number<T: FromStr>(digits: &str) -> Option<T> {
     let all_digits = digits.bytes().all(|c| c.is_ascii_digit());
     all_digits.then(|| digits.parse().ok()).flatten()
 }
@@ -112,6 +146,41 @@ mod tests {
         ] {
             let line = format!("admit {words}");
             assert_eq!(parse(&line), Err(Fault::Unparsed), "{line}");
+        }
+    }
+
+    #[test]
+    fn withdrawals() {
+        let (store, id) = (vec![0, 0], vec![10]);
+        let list = List {
+            store: store.clone(),
+            id: id.clone(),
+            second: u32::MAX,
+            list: vec![0xee; 2],
+        };
+        assert_eq!(
+            parse("list (2) 0a 4294967295 eeee"),
+            Ok(Request::List(list))
+        );
+        let withdrawal = Withdrawal { store, id };
+        assert_eq!(parse("withdraw (2) 0a"), Ok(Request::Withdraw(withdrawal)));
+        let input = vec![0, 0, 10];
+        assert_eq!(parse("page (2)0a"), Ok(Request::Page { input }));
+        for line in [
+            "list - - 0",
+            "list - - 0 - -",
+            "list - - 4294967296 -",
+            "list - - -1 -",
+            "list - - - -",
+            "list - - 0 0",
+            "withdraw -",
+            "withdraw - - -",
+            "withdraw - 0",
+            "page",
+            "page - -",
+            "page 0",
+        ] {
+            assert_eq!(parse(line), Err(Fault::Unparsed), "{line}");
         }
     }
 

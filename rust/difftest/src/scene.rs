@@ -101,10 +101,7 @@ impl Scene {
         while entries.len() < self.filled {
             entries.push(self.neighbour(random));
         }
-        let mut slots: Vec<Option<Entry>> = entries.into_iter().map(Some).collect();
-        slots.resize(SLOTS, None);
-        issuers::shuffle(&mut slots, random);
-        slots.try_into().expect("as many slots as a store has")
+        entry::in_any_slots(entries, random)
     }
 
     /// The certificate's own entry, or another one under its id.

@@ -11,7 +11,8 @@ use crate::plan::{self, Permission, Plan, Rectangle, AUTHORITY, ROOT, TICKET};
 use crate::plan::{MOST_LATITUDE, MOST_LONGITUDE};
 use crate::random::Random;
 use crate::scene::Scene;
-use crate::slot::{SLOTS, SLOT_LENGTH, STORE_LENGTH};
+use crate::slot::SLOTS;
+use crate::spoil;
 
 type Trouble = fn(&mut Scene, &mut Random);
 
@@ -38,10 +39,14 @@ pub const ALL: [(&str, Trouble); 18] = [
         scene.spoils.push(damaged)
     }),
     ("a damaged store", |scene, _| {
-        scene.spoils.push(damaged_store)
+        scene
+            .spoils
+            .push(|_, change, random| spoil::damage(&mut change.store, random))
     }),
     ("a store of another length", |scene, _| {
-        scene.spoils.push(other_length)
+        scene
+            .spoils
+            .push(|_, change, random| spoil::resize(&mut change.store, random))
     }),
 ];
 
@@ -143,7 +148,7 @@ fn bounded<'a>(plan: &'a mut Plan, random: &mut Random) -> &'a mut Vec<Rectangle
 }
 
 /// An edge moved, if the rectangle stays one.
-fn moved(rectangle: Rectangle, edge: usize, by: i32) -> Rectangle {
+pub fn moved(rectangle: Rectangle, edge: usize, by: i32) -> Rectangle {
     let mut new = rectangle;
     new[edge] += by;
     let [north, west, south, east] = new;
@@ -205,27 +210,4 @@ fn damaged(plan: &Plan, change: &mut Change, random: &mut Random) {
             change.certificate = damage::apply(damage, Draft::of(plan).encode(), random);
         }
     }
-}
-
-/// One bit changed, or a slot copied over another.
-fn damaged_store(_: &Plan, change: &mut Change, random: &mut Random) {
-    let store = &mut change.store;
-    if store.len() != STORE_LENGTH || random.once_in(2) {
-        let bits = 8 * store.len();
-        if bits > 0 {
-            let bit = random.below(bits);
-            store[bit / 8] ^= 0x80 >> (bit % 8);
-        }
-    } else {
-        let (from, to) = (random.below(SLOTS), random.below(SLOTS));
-        let from = from * SLOT_LENGTH;
-        store.copy_within(from..from + SLOT_LENGTH, to * SLOT_LENGTH);
-    }
-}
-
-fn other_length(_: &Plan, change: &mut Change, random: &mut Random) {
-    let any = random.below(30_000);
-    let length = random.pick(&[0, 1, 13_567, 13_569, 27_136, any]);
-    let store = std::mem::take(&mut change.store);
-    change.store = store.into_iter().cycle().take(length).collect();
 }

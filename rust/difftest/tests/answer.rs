@@ -3,6 +3,7 @@
 use std::io::Write;
 use std::process::{Command, Output, Stdio};
 
+use difftest::hex;
 use difftest::requests;
 use difftest::vectors;
 
@@ -98,6 +99,44 @@ fn answers_changes() {
         let slot = format!("{ROOT_ID}{}60000000000000007d00a9{}", zeros(8), zeros(185));
         assert_eq!(lines[5], format!("0 {slot}{}", zeros(13_568 - 212)));
         assert_eq!(lines.len(), 6);
+    }
+}
+
+/// The root put in, and what its withdrawal takes down, does and prints.
+#[test]
+fn answers_withdrawals() {
+    let zeros = |octets| "00".repeat(octets);
+    let slot = |state| {
+        format!(
+            "{ROOT_ID}{}{state}0000000000000007d00a9{}",
+            zeros(8),
+            zeros(185)
+        )
+    };
+    let store = format!("{}{}", slot("6"), zeros(13_568 - 212));
+    let list = "ee".repeat(65);
+    let input = format!(
+        "list {store} {ROOT_ID} 999 {list}\nlist {store} {ROOT_ID} 1000 {list}\n\
+         list {store} {ROOT_ID} 0 -\nlist {store} (8) 0 {list}\nlist {store} {ROOT_ID} x {list}\n\
+         withdraw {store} {ROOT_ID}\nwithdraw (13568) {ROOT_ID}\nwithdraw {store} -\n\
+         page {store}{ROOT_ID}000003e7\npage -\npage\n"
+    );
+    let rest = "ee".repeat(64);
+    let text = format!("withdraw {ROOT_ID} at 999\n0 {ROOT_ID} root 52\n1 certificates\n");
+    for words in [&[][..], &["--reference"]] {
+        let lines = lines(words, input.as_bytes());
+        assert_eq!(lines[0], format!("0 1 00{rest}"));
+        assert_eq!(lines[1], format!("0 0 {list}"));
+        assert_eq!(lines[2], "1 0 -");
+        assert_eq!(lines[3], format!("7 0 {list}"));
+        assert_eq!(lines[4], "error");
+        assert_eq!(lines[5], format!("0 {}{}", slot("a"), zeros(13_568 - 212)));
+        assert_eq!(lines[6], format!("7 {}", zeros(13_568)));
+        assert_eq!(lines[7], format!("1 {store}"));
+        assert_eq!(lines[8], hex::text(text.as_bytes()));
+        assert_eq!(lines[9], hex::text(b"refused 1\n"));
+        assert_eq!(lines[10], "error");
+        assert_eq!(lines.len(), 11);
     }
 }
 

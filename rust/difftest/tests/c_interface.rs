@@ -7,6 +7,7 @@ use std::path::{Path, PathBuf};
 use std::process::{Command, Output, Stdio};
 
 use difftest::seed::tell;
+use nattveldi::raw;
 
 const WARNINGS: [&str; 4] = ["-Wall", "-Wextra", "-Werror", "-pedantic"];
 
@@ -129,33 +130,99 @@ slot 0 1e38b1de3f581532
 slot 1 30e658f573ab3a01
 ";
 
+/// A file with the octets of an example certificate. Each test has its own, so
+/// that none reads what another is writing.
+fn file(test: &str, name: &str) -> String {
+    let path = target(&format!("{test}-{name}")).with_extension("octets");
+    std::fs::write(&path, example(name)).expect("a file of octets");
+    path.to_string_lossy().into()
+}
+
+/// The status and the output of an example with words behind its name.
+fn run_with(program: &Path, words: &[&str]) -> (Option<i32>, String) {
+    let output = Command::new(program).args(words).output();
+    let output = output.expect("the example runs");
+    let text = String::from_utf8(output.stdout).expect("text");
+    (output.status.code(), text)
+}
+
 /// Below the root a unit goes in once; the ticket of the other example has
 /// another issuer.
 #[test]
 fn example_admits_a_ticket() {
     let program = build("admit");
-    let file = |name: &str| {
-        let path = target(name).with_extension("octets");
-        std::fs::write(&path, example(name)).expect("a file of octets");
-        path
-    };
-    let [root, unit, ticket] = ["root.hex", "unit.hex", "ticket.hex"].map(file);
-    let run = |files: &[&PathBuf]| {
-        let output = Command::new(&program).args(files).output();
-        let output = output.expect("the example runs");
-        let text = String::from_utf8(output.stdout).expect("text");
-        (output.status.code(), text)
-    };
-    let all = run(&[&root, &unit, &unit, &ticket]);
+    let [root, unit, ticket] =
+        ["root.hex", "unit.hex", "ticket.hex"].map(|name| file("admit", name));
+    let all = run_with(&program, &[&root, &unit, &unit, &ticket]);
     assert_eq!(all, (Some(1), ROOT_AND_UNIT.to_string()));
-    let (status, text) = run(&[&root, &unit]);
+    let (status, text) = run_with(&program, &[&root, &unit]);
     assert_eq!(status, Some(0), "{text}");
-    let (status, text) = run(&[&unit, &root]);
+    let (status, text) = run_with(&program, &[&unit, &root]);
     assert_eq!((status, &text[..]), (Some(1), "install 10\nadmit 10\n"));
 }
 
+/// At 694,700,000 root and unit stand; at 695,260,800 the unit's period ends.
+const BOTH_FALL: &str = "\
+install 0
+admit 0
+withdraw this? 2 would no longer stand:
+slot 0 1e38b1de3f581532
+slot 1 30e658f573ab3a01
+withdraw 1e38b1de3f581532 at 694700000
+0 1e38b1de3f581532 root 726f6f74
+1 30e658f573ab3a01 ticket 756e6974203138
+2 certificates
+withdraw 0
+list refused 8
+slot 0 1e38b1de3f581532 withdrawn
+slot 1 30e658f573ab3a01
+";
+const ROOT_FALLS: &str = "\
+install 0
+admit 0
+withdraw this? 1 would no longer stand:
+slot 0 1e38b1de3f581532
+withdraw 1e38b1de3f581532 at 695260800
+0 1e38b1de3f581532 root 726f6f74
+1 certificates
+withdraw 0
+list refused 8
+slot 0 1e38b1de3f581532 withdrawn
+slot 1 30e658f573ab3a01
+";
+const NOT_STORED: &str = "\
+install 10
+list refused 7
+refused 7
+withdraw 7
+list refused 7
+";
+
+#[test]
+fn example_withdraws_a_root() {
+    let program = build("withdraw");
+    let [root, unit] = ["root.hex", "unit.hex"].map(|name| file("withdraw", name));
+    for (second, files, expected) in [
+        ("694700000", &[&root, &unit][..], (Some(0), BOTH_FALL)),
+        (
+            "695260799",
+            &[&root, &unit],
+            (Some(0), &BOTH_FALL.replace("694700000", "695260799")),
+        ),
+        ("695260800", &[&root, &unit], (Some(0), ROOT_FALLS)),
+        ("694700000", &[&unit], (Some(1), NOT_STORED)),
+    ] {
+        let words: Vec<&str> = [second]
+            .into_iter()
+            .chain(files.iter().map(|f| &f[..]))
+            .collect();
+        let (status, text) = run_with(&program, &words);
+        assert_eq!((status, &text[..]), expected, "{second}");
+    }
+}
+
 /// The header has the bindings' refusals under their names and numbers, and
-/// the length of a store. 15 has a longer name: "signature" is a field.
+/// the lengths. 15 has a longer name: "signature" is a field.
 #[test]
 fn header_has_the_numbers() {
     let path = root().join("include/nattveldi.h");
@@ -170,11 +237,15 @@ fn header_has_the_numbers() {
         let ends = [",", " "].map(|end| header.contains(&format!("{line}{end}")));
         assert!(ends.contains(&true), "the header lacks {line}");
     }
-    let length = format!(
-        "#define NATTVELDI_STORE_LENGTH {}\n",
-        nattveldi::STORE_LENGTH
-    );
-    assert!(header.contains(&length), "the header lacks {length}");
+    for (name, length) in [
+        ("FIELDS", raw::FIELDS_LENGTH),
+        ("STORE", raw::STORE_LENGTH),
+        ("LIST", raw::LIST_LENGTH),
+        ("PAGE", raw::PAGE_LENGTH),
+    ] {
+        let line = format!("#define NATTVELDI_{name}_LENGTH {length}\n");
+        assert!(header.contains(&line), "the header lacks {line}");
+    }
 }
 
 #[test]

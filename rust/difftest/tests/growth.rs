@@ -4,11 +4,13 @@
 use std::collections::BTreeMap;
 
 use difftest::changes::{Change, Changed, Operation};
+use difftest::compare::withdrawal;
 use difftest::draft::Draft;
 use difftest::entry::{self, Entry, Slots, HELD, WITHDRAWN};
 use difftest::plan::{Plan, ROOT};
 use difftest::random::Random;
 use difftest::slot::{SLOTS, STORE_LENGTH};
+use difftest::withdrawals::Withdrawal;
 use difftest::{compare, expect, growth, scene, seed};
 
 const STORES: u64 = 40;
@@ -82,13 +84,25 @@ impl Grown {
         number
     }
 
-    /// Withdraws an entry in place, as no operation does yet.
+    /// Withdraws the entry of a slot, if there is one; it may be so already.
     fn withdraw(&mut self, random: &mut Random) {
         let at = random.below(SLOTS);
-        if let Some(entry) = &mut self.slots[at] {
-            entry.state = WITHDRAWN;
-            self.store = entry::store(&self.slots);
-        }
+        let Some(entry) = &mut self.slots[at] else {
+            return;
+        };
+        let request = Withdrawal {
+            store: self.store.clone(),
+            id: entry.id.to_vec(),
+        };
+        let Changed { number, store } = withdrawal::withdraw(&request).expect("agreement");
+        let expected = if entry.state == HELD { 0 } else { 8 };
+        assert_eq!(number, expected);
+        entry.state = WITHDRAWN;
+        assert!(
+            store == entry::store(&self.slots),
+            "the store after {number}"
+        );
+        self.store = store;
     }
 
     /// How many certificates stand above an entry, itself among them.

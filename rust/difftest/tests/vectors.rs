@@ -61,8 +61,8 @@ fn open_points() {
     assert_eq!(
         check("open-points.txt"),
         Counts {
-            answered: 28,
-            waiting: 50
+            answered: 44,
+            waiting: 34
         }
     );
 }
@@ -72,8 +72,8 @@ fn operations() {
     assert_eq!(
         check("operations.txt"),
         Counts {
-            answered: 69,
-            waiting: 229
+            answered: 195,
+            waiting: 103
         }
     );
 }

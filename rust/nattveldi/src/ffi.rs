@@ -31,6 +31,30 @@ mod c {
             certificate_length: usize,
             verdict: u8,
         ) -> u8;
+
+        pub fn nattveldi_list(
+            store: *const u8,
+            store_length: usize,
+            id: *const u8,
+            id_length: usize,
+            second: u32,
+            list: *mut u8,
+            list_length: usize,
+        ) -> i32;
+
+        pub fn nattveldi_withdraw(
+            store: *mut u8,
+            store_length: usize,
+            id: *const u8,
+            id_length: usize,
+        ) -> u8;
+
+        pub fn nattveldi_page(
+            input: *const u8,
+            input_length: usize,
+            text: *mut u8,
+            text_length: usize,
+        ) -> u32;
     }
 }
 
@@ -82,4 +106,26 @@ pub fn admit(store: &mut [u8], certificate: &[u8], verdict: u8) -> u8 {
             verdict,
         )
     }
+}
+
+pub fn list(store: &[u8], id: &[u8], second: u32, list: &mut [u8]) -> i32 {
+    unsafe {
+        c::nattveldi_list(
+            store.as_ptr(),
+            store.len(),
+            id.as_ptr(),
+            id.len(),
+            second,
+            list.as_mut_ptr(),
+            list.len(),
+        )
+    }
+}
+
+pub fn withdraw(store: &mut [u8], id: &[u8]) -> u8 {
+    unsafe { c::nattveldi_withdraw(store.as_mut_ptr(), store.len(), id.as_ptr(), id.len()) }
+}
+
+pub fn page(input: &[u8], text: &mut [u8]) -> u32 {
+    unsafe { c::nattveldi_page(input.as_ptr(), input.len(), text.as_mut_ptr(), text.len()) }
 }

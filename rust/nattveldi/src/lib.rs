@@ -3,10 +3,12 @@
 //!
 //! [`read`] takes a certificate apart and [`id`] works out its 8-octet id.
 //! [`install`] puts a root into a store, and [`admit`] a certificate below an
-//! issuer that the store holds. All take any octets of any length and either
-//! answer or give a [`Refusal`]. Nothing is copied out of the certificate by
-//! reading: what the library found is named by [`Part`]s of the caller's
-//! octets.
+//! issuer that the store holds. [`list`] tells what the withdrawal of a
+//! certificate would take down, and [`withdraw`] withdraws it; [`page`] is the
+//! list as text. All take any octets of any length and either answer or give a
+//! [`Refusal`], which in a page is a text as well. Nothing is copied out of the
+//! certificate by reading: what the library found is named by [`Part`]s of the
+//! caller's octets.
 //!
 //! ```
 //! use nattveldi::{id, read, Kind, Refusal};
@@ -46,6 +48,7 @@ mod ffi;
 pub mod raw;
 mod refusal;
 mod store;
+mod withdrawal;
 
 pub use certificate::{
     Certificate, Kind, Part, Period, PeriodForm, Permission, PointType, PublicKey, Rectangle,
@@ -54,6 +57,7 @@ pub use certificate::{
 pub use raw::STORE_LENGTH;
 pub use refusal::Refusal;
 pub use store::{admit, empty_store, install};
+pub use withdrawal::{list, page, withdraw};
 
 /// Reads a certificate.
 ///

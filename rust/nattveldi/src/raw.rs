@@ -1,5 +1,6 @@
 //! The library's functions as the C header has them: a number for an answer
-//! and a buffer of the caller. For tests, and for callers that want the words.
+//! and a buffer of the caller. For tests, and for callers that want the words
+//! or have a buffer already.
 
 use crate::ffi;
 
@@ -14,6 +15,12 @@ pub const ID_LENGTH: usize = 8;
 
 /// How many octets a store has.
 pub const STORE_LENGTH: usize = 13_568;
+
+/// How many octets [`list`] needs: one for each slot of a store.
+pub const LIST_LENGTH: usize = 64;
+
+/// How many octets [`page`] needs; no text is longer.
+pub const PAGE_LENGTH: usize = 6_144;
 
 /// The most permissions that a certificate has.
 pub const MOST_PERMISSIONS: usize = 16;
@@ -102,6 +109,50 @@ pub fn install(store: &mut [u8], certificate: &[u8], verdict: u8) -> u8 {
 /// ```
 pub fn admit(store: &mut [u8], certificate: &[u8], verdict: u8) -> u8 {
     ffi::admit(store, certificate, verdict)
+}
+
+/// Writes the slot numbers of the certificates that stand at a second and
+/// would not if the one under `id` were withdrawn, ascending, to the first
+/// octets of `list`; the octets behind them stay. The answer is how many they
+/// are, or minus the number of a refusal: -1 if `store` has not 13,568 octets,
+/// `id` not 8, or `list` fewer than 64. In a refusal `list` stays as it was.
+///
+/// ```
+/// let mut list = [7; 64];
+/// assert_eq!(nattveldi::raw::list(&nattveldi::empty_store(), &[1; 8], 220, &mut list), -7);
+/// assert_eq!(list, [7; 64]);
+/// ```
+pub fn list(store: &[u8], id: &[u8], second: u32, list: &mut [u8]) -> i32 {
+    ffi::list(store, id, second, list)
+}
+
+/// Withdraws the certificate under `id`. The answer is 1 if `store` has not
+/// 13,568 octets or `id` not 8. In a refusal `store` stays as it was.
+///
+/// ```
+/// let mut store = nattveldi::empty_store();
+/// assert_eq!(nattveldi::raw::withdraw(&mut store, &[1; 9]), 1);
+/// assert_eq!(nattveldi::raw::withdraw(&mut store, &[1; 8]), 7);
+/// assert_eq!(store, nattveldi::empty_store());
+/// ```
+pub fn withdraw(store: &mut [u8], id: &[u8]) -> u8 {
+    ffi::withdraw(store, id)
+}
+
+/// Writes the text that the program `page` prints for an input to the first
+/// octets of `text`; the octets behind it stay. The answer is the text's
+/// length, or 0 if `text` has fewer than 6,144 octets, which then stay.
+///
+/// ```
+/// use nattveldi::raw::{page, PAGE_LENGTH};
+///
+/// let mut text = [7; PAGE_LENGTH];
+/// assert_eq!(page(&[], &mut text), 10);
+/// assert_eq!(text[..11], *b"refused 1\n\x07");
+/// assert_eq!(page(&[], &mut text[1..]), 0);
+/// ```
+pub fn page(input: &[u8], text: &mut [u8]) -> u32 {
+    ffi::page(input, text)
 }
 
 /// The word at an index of what [`read`] wrote.

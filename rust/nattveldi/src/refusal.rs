@@ -19,7 +19,8 @@ use crate::raw::ACCEPTED;
 #[non_exhaustive]
 #[repr(u8)]
 pub enum Refusal {
-    /// A buffer of the caller is too short, or a store has not 13,568 octets.
+    /// A buffer of the caller is too short, a store has not 13,568 octets, or
+    /// an id not 8.
     BadCall = 1,
     /// A store against its own rules.
     BadStore = 2,
@@ -32,9 +33,10 @@ pub enum Refusal {
     /// A version, type or algorithm that is not read here, or more
     /// permissions or rectangles than are read.
     Unsupported = 6,
-    /// The issuer is not in the store.
+    /// The issuer, or the id that is asked for, is not in the store.
     Unknown = 7,
-    /// The issuer is withdrawn.
+    /// The issuer, or the certificate under the id that is asked for, is
+    /// withdrawn.
     Withdrawn = 8,
     /// A kind that the operation does not take, or an issuer that is a ticket.
     WrongKind = 10,
@@ -109,7 +111,7 @@ impl Refusal {
     pub fn meaning(self) -> &'static str {
         match self {
             Refusal::BadCall => {
-                "a buffer is too short for the answer, or a store has not 13,568 octets"
+                "a buffer is too short for the answer, a store has not 13,568 octets, or an id not 8"
             }
             Refusal::BadStore => "the store breaks a rule of its own",
             Refusal::TooLong => "a certificate has at most 1,024 octets",
@@ -118,8 +120,8 @@ impl Refusal {
             Refusal::Unsupported => {
                 "it has a version, type or algorithm that is not read here, or more than 16 permissions or 4 rectangles"
             }
-            Refusal::Unknown => "the issuer is not in the store",
-            Refusal::Withdrawn => "the issuer is withdrawn",
+            Refusal::Unknown => "the issuer, or the id that is asked for, is not in the store",
+            Refusal::Withdrawn => "the issuer, or the certificate under the id, is withdrawn",
             Refusal::WrongKind => {
                 "the operation does not take this kind, or the issuer is a ticket"
             }
@@ -146,9 +148,19 @@ pub(crate) fn result(number: u8) -> Result<(), Refusal> {
     if number == ACCEPTED {
         return Ok(());
     }
-    Err(Refusal::from_number(number).unwrap_or_else(|| {
+    Err(known(number.into()))
+}
+
+/// A count, or a refusal if it is minus a number.
+pub(crate) fn count(answer: i32) -> Result<usize, Refusal> {
+    usize::try_from(answer).map_err(|_| known(answer.unsigned_abs()))
+}
+
+fn known(number: u32) -> Refusal {
+    let number_of_one = u8::try_from(number).ok().and_then(Refusal::from_number);
+    number_of_one.unwrap_or_else(|| {
         panic!("the archive answered {number}, a number that these bindings do not know")
-    }))
+    })
 }
 
 #[cfg(test)]
@@ -167,6 +179,8 @@ mod tests {
         }
         assert_eq!(result(0), Ok(()));
         assert_eq!(result(4), Err(Refusal::Cut));
+        assert_eq!((count(0), count(64)), (Ok(0), Ok(64)));
+        assert_eq!(count(-8), Err(Refusal::Withdrawn));
     }
 
     /// The names in the paper's table.

@@ -45,6 +45,9 @@ pub const MAXIMUM_RECTANGLES: usize = 4;
 /// "0 to 16 permissions"
 pub const MAXIMUM_PERMISSIONS: usize = 16;
 
+/// "This was the eighth certificate, 18"
+pub const MAXIMUM_CHAIN: usize = 8;
+
 /// "The latest end is 4,294,967,295 + 8,191 × 31,556,925 = 262,777,739,970."
 pub const LATEST_END: u64 = 262_777_739_970;
 

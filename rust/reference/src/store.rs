@@ -21,6 +21,11 @@ pub(crate) fn state(slot: &Slot) -> u8 {
     slot[STATE_OCTET] >> 6
 }
 
+/// Changes the two bits of the state alone.
+pub(crate) fn set_state(slot: &mut Slot, state: u8) {
+    slot[STATE_OCTET] = state << 6 | slot[STATE_OCTET] & 0x3f;
+}
+
 /// The number of the filled slot with this id. "A withdrawn slot stays filled for good"; an empty
 /// one is never found, not by the id zero either.
 pub fn find(store: &[u8], id: &[u8; 8]) -> Option<usize> {

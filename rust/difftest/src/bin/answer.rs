@@ -21,6 +21,11 @@ library, or with --reference that of the independent reference.
   install STORE CERT VERDICT
   admit STORE CERT VERDICT
                NUMBER STORE
+  list STORE ID SECOND LIST
+               NUMBER N LIST
+  withdraw STORE ID
+               NUMBER STORE
+  page INPUT   the text in hex
 
 A line that is unknown or does not parse is answered `error`. Blank lines, lines
 that start with # and lines that start with = are no requests and get no answer,

@@ -2,6 +2,7 @@
 
 #![allow(dead_code)] // each test file uses its own share
 
+pub mod chains;
 pub mod stores;
 
 use reference::{read, Certificate};

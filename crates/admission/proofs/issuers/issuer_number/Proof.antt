@@ -1,7 +1,8 @@
 -- Assumes nothing.
 use mathlib.Core.Path.{sym, ap, _∙_}
 use Rattle.store.specs.Search.{foundOf}
-use Rattle.admission.proofs.Tests.{find-lt, issuer-unknown, issuer-found}
+use Rattle.store.proofs.Found.{find-finds}
+use Rattle.admission.proofs.Tests.{issuer-unknown, issuer-found}
 use borrow.Author.Needs.{needs}
 use Rattle.admission.proofs.issuers.issuer_number.Statement.{statement}
 use Rattle.admission.proofs.issuers.issuer_number.Tie as tie
@@ -16,7 +17,7 @@ enum-known-slot : tie.Need-enum-known-slot
 enum-known-slot c = search needs
 
 below-requires : tie.Need-below-requires
-below-requires c κs = (find-lt _ _ _ (sym (c .before .before .before .find-id .ensures) ∙ ap foundOf (c .before .slot .given .1)), c .before .before .before .before .before .pre)
+below-requires c κs = (find-finds _ _ _ (sym (c .before .before .before .find-id .ensures) ∙ ap foundOf (c .before .slot .given .1)) .0, c .before .before .before .before .before .pre)
 
 returns : tie.Need-returns
 returns c = issuer-unknown _ _ _ (sym (c .before .before .find-id .ensures) ∙ ap foundOf (c .enum-told .given .1))

@@ -8,7 +8,7 @@ use Rattle.records.specs.Ranges.{InRange}
 use Rattle.records.specs.declared.Record.{Record}
 use Rattle.admission.specs.Readable.{accepted}
 use Rattle.admission.specs.Order.{placed}
-use Rattle.admission.proofs.Tests.{of-not}
+use Rattle.geo.proofs.Bools.{of-not}
 use Rattle.admission.proofs.Facts.{facts}
 use Rattle.admission.proofs.Entered.{entered-length, entered-bad, entered-unread, entered-kind, entered-placed}
 use borrow.Author.Needs.{needs}

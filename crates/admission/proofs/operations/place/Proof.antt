@@ -1,7 +1,8 @@
 -- The tests, then the lowest empty slot. Assumes nothing.
 use mathlib.Core.Path.{sym, ap, _∙_}
 use Rattle.store.specs.Search.{foundOf}
-use Rattle.admission.proofs.Entered.{pair, placed-stops, placed-full, placed-slot, empty-lt}
+use Rattle.store.proofs.Found.{empty-finds}
+use Rattle.admission.proofs.Entered.{pair, placed-stops, placed-full, placed-slot}
 use borrow.Author.Needs.{needs}
 use Rattle.admission.proofs.operations.place.Statement.{statement}
 use Rattle.admission.proofs.operations.place.Tie as tie
@@ -25,7 +26,7 @@ enum-known-slot : tie.Need-enum-known-slot
 enum-known-slot c = search needs
 
 store-record-requires : tie.Need-store-record-requires
-store-record-requires c κs = (empty-lt _ _ (sym (c .before .before .before .before .empty-slot .ensures) ∙ ap foundOf (c .before .before .slot .given .1)), c .before .before .before .before .before .before .before .before .before .before .pre .0, c .before .before .before .before .before .before .before .before .before .before .pre .1)
+store-record-requires c κs = (empty-finds _ _ (sym (c .before .before .before .before .empty-slot .ensures) ∙ ap foundOf (c .before .before .slot .given .1)) .0, c .before .before .before .before .before .before .before .before .before .before .pre .0, c .before .before .before .before .before .before .before .before .before .before .pre .1)
 
 same-length-2 : tie.Need-same-length-2
 same-length-2 c = search needs

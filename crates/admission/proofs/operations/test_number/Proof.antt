@@ -5,7 +5,8 @@ use borrow.Author.Tests.{eq-eqb, ne-eqb}
 use Rattle.bitfields.specs.Field.{number}
 use Rattle.store.specs.Search.{find}
 use Rattle.admission.specs.Order.{absent}
-use Rattle.admission.proofs.Tests.{test-held, test-issuer, test-signature, test-passes, of-not}
+use Rattle.geo.proofs.Bools.{of-not}
+use Rattle.admission.proofs.Tests.{test-held, test-issuer, test-signature, test-passes}
 use borrow.Author.Needs.{needs}
 use Rattle.admission.proofs.operations.test_number.Statement.{statement}
 use Rattle.admission.proofs.operations.test_number.Tie as tie

@@ -1,0 +1,115 @@
+-- The same over a store: what the functions of this crate cite. Assumes nothing.
+use mathlib.Core.Path.{_≡_, refl, sym, ap, _∙_}
+use mathlib.Core.Bool.{Bool}
+use mathlib.Core.List.{List}
+use mathlib.Core.Option.{Option, none, some}
+use Prim.Native.Nat.{ℕ, _-_, _<_}
+use native.Mathlib.Nat.{suc-ne-zero}
+use Rattle.order.specs.Steps.{gives, refused, onward, done, take, run, needs, Coded, no-row, coded}
+use Rattle.order.proofs.Steps.{gives-exactly, refuses-exactly, gives-refused, run-follow, needs-to, needs-from, needs-refuse-first, all-pass, first-fails}
+use Rattle.octets.specs.Refusals.{UNKNOWN, CHAIN-TOO-LONG}
+use Rattle.scope.specs.Issued.{issuedRows, issuedNumber}
+use Rattle.scope.proofs.Exactly.{issued-coded}
+use Rattle.scope.specs.declared.Scope.{Scope}
+use Rattle.records.specs.Layout.{KIND, valueOf}
+use Rattle.records.specs.Records.{scopeOf}
+use Rattle.store.specs.Slots.{slotOf, idAt}
+use Rattle.store.specs.Search.{find}
+use Rattle.store.proofs.Found.{find-finds}
+use Rattle.chain.specs.declared.subjects.Subject.{Subject}
+use Rattle.chain.specs.declared.subjects.Place.{Place}
+use Rattle.chain.specs.declared.subjects.Place.the-variants.{Anywhere, At}
+use Rattle.chain.specs.Walk.{placeRows, ownRows, climb}
+use Rattle.chain.specs.Chains.{Root}
+use Rattle.chain.specs.Stored.{slotOr, subjectOr, subjectAt, issuerIn, walkNumber, ownNumber, linked, upward}
+use Rattle.chain.proofs.Coding as coding
+
+place-coded : (p : Place) (s : Scope) → Coded (placeRows p s)
+place-coded Anywhere s = no-row
+place-coded (At p) s = coded (λ e z. suc-ne-zero 12 z) no-row
+
+rows : (gone : ℕ → Bool) (t : ℕ) (p : Place) (c : Subject) → Coded (ownRows gone t p c)
+rows gone t p c = coded (λ e z. suc-ne-zero 7 z) (coded (λ e z. suc-ne-zero 11 z) (place-coded p (c .scope)))
+
+-- the step to the issuer as a certificate is the step to its slot
+at-slot : (l : List ℕ) (s : Scope) (i : ℕ) → run (needs (issuedRows s (subjectAt l i .scope)) (done (subjectAt l i))) ≡ onward (linked l s i) (λ j. gives (subjectAt l j))
+unfolding linked subjectAt run
+at-slot l s i = run-follow (needs (issuedRows s (scopeOf (slotOf l i))) (done i)) (λ j. done (subjectAt l j))
+
+at-found : (l : List ℕ) (s : Scope) (o : Option ℕ) → run (take (subjectOr UNKNOWN l o) (λ j. needs (issuedRows s (j .scope)) (done j)))
+    ≡ onward (onward (slotOr UNKNOWN o) (linked l s)) (λ j. gives (subjectAt l j))
+unfolding run
+at-found l s none = refl
+at-found l s (some i) = at-slot l s i
+
+step-slot : (l : List ℕ) (c : Subject) → run (climb (issuerIn l) c (λ j. done j)) ≡ onward (upward l c) (λ j. gives (subjectAt l j))
+unfolding issuerIn upward
+step-slot l c = at-found l (c .scope) (find l (c .issuer))
+
+-- the slot of an issuer is found by its own id
+linked-slot : (l : List ℕ) (s : Scope) (i j : ℕ) → linked l s i ≡ gives j → i ≡ j
+unfolding linked
+linked-slot l s i j e =
+    let g = gives-exactly (needs (issuedRows s (scopeOf (slotOf l i))) (done i)) j .0 e in
+    sym (needs-to (issuedRows s (scopeOf (slotOf l i))) (done i) j g .1)
+
+pub linked-refused : (l : List ℕ) (s : Scope) (i k : ℕ) → issuedNumber s (scopeOf (slotOf l i)) ≡ k → ¬ (k ≡ 0) → refused k ≡ linked l s i
+unfolding linked issuedNumber
+linked-refused l s i k e z =
+    let rows = issuedRows s (scopeOf (slotOf l i)) in
+    sym (refuses-exactly (needs rows (done i)) k .1 (needs-refuse-first rows (done i) k (first-fails rows k z .0 e)))
+
+pub linked-on : (l : List ℕ) (s : Scope) (i : ℕ) → issuedNumber s (scopeOf (slotOf l i)) ≡ 0 → gives i ≡ linked l s i
+unfolding linked issuedNumber
+linked-on l s i e =
+    let rows = issuedRows s (scopeOf (slotOf l i)) in
+    sym (gives-exactly (needs rows (done i)) i .1 (needs-from rows (done i) i (all-pass rows (issued-coded s (scopeOf (slotOf l i))) .0 e) refl))
+
+-- the step up
+pub up-unknown : (l : List ℕ) (c : Subject) → find l (c .issuer) ≡ none → refused UNKNOWN ≡ upward l c
+unfolding upward
+up-unknown l c e = rw e
+
+pub up-linked : (l : List ℕ) (c : Subject) (j : ℕ) → find l (c .issuer) ≡ some j → linked l (c .scope) j ≡ upward l c
+unfolding upward
+up-linked l c j e = rw e
+
+pub kind-of : (l : List ℕ) (i : ℕ) → valueOf (slotOf l i) KIND ≡ subjectAt l i .scope .kind
+unfolding subjectAt scopeOf
+kind-of l i = refl
+
+pub found-again : (l : List ℕ) (x j : ℕ) → find l x ≡ some j → find l (idAt l j) ≡ some j
+found-again l x j e = ap (find l) (find-finds l x j e .2) ∙ e
+
+pub up-found : (l : List ℕ) (c : Subject) (j : ℕ) → upward l c ≡ gives j → (j < 64) × (find l (idAt l j) ≡ some j)
+unfolding upward
+up-found l c j e = go (find l (c .issuer)) refl e
+  where
+    go : (o : Option ℕ) → find l (c .issuer) ≡ o → onward (slotOr UNKNOWN o) (linked l (c .scope)) ≡ gives j → (j < 64) × (find l (idAt l j) ≡ some j)
+    go none f e = absurd (gives-refused j UNKNOWN e)
+    go (some i) f e =
+        let q : find l (c .issuer) ≡ some j = f ∙ ap (λ (k : ℕ). some k) (linked-slot l (c .scope) i j e) in
+        (find-finds l (c .issuer) j q .0, found-again l (c .issuer) j q)
+
+module _ (l : List ℕ) where
+  module _ (gone : ℕ → Bool) (t : ℕ) (p : Place) where
+    pub at-own : (n : ℕ) (c : Subject) → ¬ (ownNumber gone t p c ≡ 0) → ownNumber gone t p c ≡ walkNumber gone l t p n c
+    unfolding ownNumber walkNumber
+    at-own = coding.at-own (issuerIn l) (ownRows gone t p) (rows gone t p)
+
+    pub at-root : (n : ℕ) (c : Subject) → ownNumber gone t p c ≡ 0 → Root c → 0 ≡ walkNumber gone l t p n c
+    unfolding ownNumber walkNumber
+    at-root = coding.at-root (issuerIn l) (ownRows gone t p) (rows gone t p)
+
+    pub at-last : (n : ℕ) (c : Subject) → ownNumber gone t p c ≡ 0 → ¬ Root c → n ≡ 0 → CHAIN-TOO-LONG ≡ walkNumber gone l t p n c
+    unfolding ownNumber walkNumber
+    at-last = coding.at-last (issuerIn l) (ownRows gone t p) (rows gone t p)
+
+    pub at-stop : (n : ℕ) (c : Subject) (k : ℕ) → ownNumber gone t p c ≡ 0 → ¬ Root c → ¬ (n ≡ 0) → upward l c ≡ refused k → k ≡ walkNumber gone l t p n c
+    unfolding ownNumber walkNumber
+    at-stop n c k e r z u = rw (coding.at-up (issuerIn l) (ownRows gone t p) (rows gone t p) n c e r z, step-slot l c, u)
+
+    pub at-on : (n : ℕ) (c : Subject) (j : ℕ) → ownNumber gone t p c ≡ 0 → ¬ Root c → ¬ (n ≡ 0) → upward l c ≡ gives j
+        → walkNumber gone l t p (n - 1) (subjectAt l j) ≡ walkNumber gone l t p n c
+    unfolding ownNumber walkNumber
+    at-on n c j e r z u = rw (coding.at-up (issuerIn l) (ownRows gone t p) (rows gone t p) n c e r z, step-slot l c, u)

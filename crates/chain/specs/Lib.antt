@@ -1,0 +1,4 @@
+pub mod Walk
+pub mod Chains
+pub mod Stored
+pub mod Laws

@@ -1,0 +1,5 @@
+// The fields of a certificate as words in a buffer.
+mod words; // words of four octets in a buffer
+mod fields; // the fields of a certificate as words
+
+pub use fields::write_fields;

@@ -1,0 +1,6 @@
+pub mod Printed
+pub mod Seconds
+pub mod Pages
+pub mod LineCounts
+pub mod Laws
+pub mod Examples

@@ -1,0 +1,5 @@
+// The text of the page program: what it prints for its input (document 01, "The page program").
+mod lines; // the lines, each written at a place of a lent buffer
+mod whole; // the whole text
+
+pub use whole::page;

@@ -1,0 +1,67 @@
+-- Which certificates fall, from what the code asks; and the list and the count that the set of their slots makes. Assumes nothing.
+use mathlib.Core.Path.{_≡_, ap, _∙_}
+use mathlib.Core.Bool.{true, false}
+use mathlib.Core.List.{List}
+use mathlib.Core.Option.{some}
+use Prim.Native.Nat.{ℕ, _<_}
+use native.Mathlib.Omega.{arith}
+use lib.ListN.{length}
+use lib.Count.{ones}
+use borrow.Author.Tests.{ne-eqb}
+use Rattle.order.specs.Steps.{gives}
+use Rattle.bitfields.specs.Field.{Octets}
+use Rattle.geo.proofs.Bools.{and-false}
+use Rattle.store.specs.Slots.{filledAt, idAt}
+use Rattle.store.specs.Search.{find}
+use Rattle.store.proofs.Found.{find-only}
+use Rattle.validity.specs.Valid.{validStore}
+use Rattle.validity.specs.Laws.{Valid}
+use Rattle.validity.proofs.Laws as validity
+use Rattle.chain.specs.declared.subjects.Place.the-variants.{Anywhere}
+use Rattle.chain.specs.Stored.{subjectAt, alsoAt, walkNumber}
+use Rattle.withdrawal.specs.SlotSets.{slotsFrom, bit, bitsFrom, slotsIn, front}
+use Rattle.withdrawal.specs.Order.{after, falls, affected, fallsWith, Listing, written, listedFor}
+use Rattle.withdrawal.proofs.SlotSets.{ones-bits, slots-same}
+use Rattle.withdrawal.proofs.Writes.{slots-in}
+use Rattle.withdrawal.proofs.Frame.{falls-with}
+
+pub valid-of : (s : List ℕ) → validStore s ≡ true → Valid s
+valid-of s e = validity.laws .valid-exactly s .0 e
+
+-- a stored certificate of a valid store is found by its id
+pub found-of : (s : List ℕ) (i : ℕ) → validStore s ≡ true → i < 64 → filledAt s i ≡ true → find s (idAt s i) ≡ some i
+found-of s i e hi f = find-only s (valid-of s e .distinct) i hi f
+
+module _ (s : List ℕ) (t c i : ℕ) where
+  pub falls-empty : filledAt s i ≡ false → 0 ≡ bit (fallsWith s t c i)
+  unfolding bit fallsWith
+  falls-empty e = rw e
+
+  module _ (f : filledAt s i ≡ true) where
+    pub falls-not : walkNumber (alsoAt s c) s t Anywhere 7 (subjectAt s i) ≡ 0 → 0 ≡ bit (fallsWith s t c i)
+    unfolding bit fallsWith
+    falls-not e = rw (f, e, and-false)
+
+    pub falls-never : ¬ (walkNumber (alsoAt s 64) s t Anywhere 7 (subjectAt s i) ≡ 0) → 0 ≡ bit (fallsWith s t c i)
+    unfolding bit fallsWith
+    falls-never n = rw (f, ne-eqb _ 0 n)
+
+    pub falls-here : ¬ (walkNumber (alsoAt s c) s t Anywhere 7 (subjectAt s i) ≡ 0) → walkNumber (alsoAt s 64) s t Anywhere 7 (subjectAt s i) ≡ 0 → 1 ≡ bit (fallsWith s t c i)
+    unfolding bit fallsWith
+    falls-here n e = rw (f, e, ne-eqb _ 0 n)
+
+-- the set's ones and its list are the page's n and list
+module _ (s : List ℕ) (c t : ℕ) (are : Octets s) (good : validStore s ≡ true) (h : c < 64) (f : filledAt s c ≡ true) where
+  pub slots-affected : slotsFrom (fallsWith s t c) 0 64 ≡ affected s (after s c) t
+  unfolding affected
+  slots-affected =
+      slots-same (fallsWith s t c) (falls s (after s c) t) 0 64 (λ i l u. falls-with s c are (valid-of s good .size) h f t i (omega arith))
+
+  pub by-set : (l : List ℕ) (x : ℕ) (o : List ℕ) → x ≡ bitsFrom (fallsWith s t c) 0 64 → o ≡ front (slotsIn x 0 64) l
+      → _≡_ {A = Listing} (record { number = 0; n = ones x; list = o; store = s }) (listedFor s t l (gives c))
+  unfolding listedFor
+  by-set l x o e q =
+      let A : List ℕ = slotsFrom (fallsWith s t c) 0 64 in
+      let m : ones x ≡ length A = ap ones e ∙ ones-bits (fallsWith s t c) 0 64 in
+      let w : o ≡ front A l = q ∙ ap (λ (r : List ℕ). front r l) (ap (λ (n : ℕ). slotsIn n 0 64) e ∙ slots-in (fallsWith s t c) 0 64) in
+      (λ d. record { number = 0; n = m d; list = w d; store = s }) ∙ ap (λ (r : List ℕ). written r l s) slots-affected

@@ -1,0 +1,7 @@
+pub mod SlotSets
+pub mod Writes
+pub mod Frame
+pub mod Asked
+pub mod Fallen
+pub mod Demand
+pub mod Laws

@@ -1,0 +1,60 @@
+-- The invariant is `Writing`: what is written, with what the rest of the set holds, is the whole set's list. Assumes nothing.
+use mathlib.Core.Logic.{⊎-elim}
+use Prim.Native.Nat.{_-_}
+use native.Mathlib.Omega.{arith}
+use Rattle.withdrawal.proofs.Writes.{Writing, start, pass, put, done}
+use Rattle.withdrawal.proofs.falling.write_slots.Statement.{statement}
+use Rattle.withdrawal.proofs.falling.write_slots.Tie as tie
+
+abbrev Inv-loop : tie.InvT-loop
+Inv-loop set lent₀ rest₀ k₀ i₀ lent rest k i = Writing set lent₀ lent rest k i
+
+abbrev μ-loop : tie.MeasureT-loop
+μ-loop set lent₀ rest₀ k₀ i₀ lent rest k i = 64 - i
+
+loop-holds : tie.Need-loop-holds Inv-loop μ-loop
+loop-holds c = start _ _
+
+cast-lent : tie.Need-cast-lent Inv-loop μ-loop
+cast-lent c = omega arith
+
+slice-write-lent : tie.Need-slice-write-lent Inv-loop μ-loop
+slice-write-lent c = omega arith
+
+add-k : tie.Need-add-k Inv-loop μ-loop
+add-k c = omega arith
+
+add-i : tie.Need-add-i Inv-loop μ-loop
+add-i c = omega arith
+
+loop-less : tie.Need-loop-less Inv-loop μ-loop
+loop-less c = omega arith
+
+loop-again : tie.Need-loop-again Inv-loop μ-loop
+loop-again c =
+    let L = c .before .before in
+    ⊎-elim (λ w. rw (w .1, w .2) (put _ _ _ _ _ _ (L .loop .inv) (omega arith) (L .before .pre) (w .0 .taken)))
+    (λ w. rw (w .1, w .2) (pass _ _ _ _ _ _ (L .loop .inv) (omega arith) (w .0 .left)))
+    (c .if1 .came)
+
+same-length : tie.Need-same-length Inv-loop μ-loop
+same-length c = c .before .loop .inv .long
+
+returns : tie.Need-returns Inv-loop μ-loop
+returns c = done _ _ _ _ _ _ (c .before .loop .inv) (omega arith) (c .before .before .pre)
+
+pub write-slots-spec : {M : Type 1} → statement M
+write-slots-spec =
+    tie.close
+    (tie.spec
+    Inv-loop
+    μ-loop
+    loop-holds
+    cast-lent
+    slice-write-lent
+    add-k
+    add-i
+    loop-less
+    loop-again
+    same-length
+    returns)

@@ -1,0 +1,4 @@
+pub mod SlotSets
+pub mod Order
+pub mod Demand
+pub mod Laws

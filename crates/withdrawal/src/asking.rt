@@ -1,0 +1,49 @@
+ghost use mathlib.Core.Path.{_≡_};
+ghost use Prim.Native.Nat.{_<_};
+ghost use lib.ListN.{length};
+ghost use Rattle.withdrawal.specs.Order.{askedOf, heldAt, asked};
+use bitfields::reading::window;
+use octets::refusals::BAD_CALL;
+use octets::refusals::BAD_STORE;
+use octets::refusals::UNKNOWN;
+use octets::refusals::WITHDRAWN;
+use store::search::Found;
+use store::search::find_id;
+use store::slots::withdrawn;
+use validity::valid;
+
+// The slot of the certificate that is asked for, or the number of the refusal.
+pub enum Asked {
+    Held(usize),
+    Refused(u8),
+}
+
+// A slot that was found, unless it is withdrawn.
+fn held(store: &[u8], slot: usize) -> Asked
+    requires { ⌜ (slot < 64) × (length (now store) ≡ 13568) ⌝ }
+    ensures { λ r. ⌜ askedOf r ≡ heldAt (now (store .entry)) slot ⌝ }
+{
+    if withdrawn(store, slot) {
+        return Asked::Refused(WITHDRAWN);
+    }
+    Asked::Held(slot)
+}
+
+// The tests that list and withdraw share.
+pub fn ask(store: &[u8], id: &[u8]) -> Asked
+    ensures { λ r. ⌜ askedOf r ≡ asked (now (store .entry)) (now (id .entry)) ⌝ }
+{
+    if store.len() != 13568 {
+        return Asked::Refused(BAD_CALL);
+    }
+    if id.len() != 8 {
+        return Asked::Refused(BAD_CALL);
+    }
+    if !valid(store) {
+        return Asked::Refused(BAD_STORE);
+    }
+    match find_id(store, window(id, 0)) {
+        Found::Nowhere => Asked::Refused(UNKNOWN),
+        Found::At(slot) => held(store, slot),
+    }
+}

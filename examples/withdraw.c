@@ -1,0 +1,104 @@
+/* Builds a store from a root and certificates below it, shows what the
+ * withdrawal of the root would take down at a second, withdraws it, and prints
+ * the filled slots. To build it, after `rt staticlib nattveldi_c` in the
+ * repository's root:
+ *
+ *   cc -std=c99 -Iinclude examples/withdraw.c target/staticlib/libnattveldi_c.a -o withdraw
+ *
+ * The example certificates are hex text with comments; as octets they come from
+ *
+ *   for name in root unit; do cut -d# -f1 examples/$name.hex | xxd -r -p > $name.octets; done
+ *   ./withdraw 694700000 root.octets unit.octets
+ */
+#include <stdio.h>
+#include <stdlib.h>
+#include <string.h>
+
+#include "nattveldi.h"
+
+/* One more than the longest certificate, so that a longer file is noticed. */
+#define MOST_OCTETS 1025
+#define SLOTS NATTVELDI_LIST_LENGTH
+#define SLOT_LENGTH (NATTVELDI_STORE_LENGTH / SLOTS)
+#define ID_LENGTH 8
+/* The chip's octet for a good signature. Here no signature is checked. */
+#define GOOD 1
+
+static size_t read_file(const char *name, uint8_t *octets)
+{
+    size_t length;
+    FILE *file = fopen(name, "rb");
+    if (file == NULL)
+        return 0;
+    length = fread(octets, 1, MOST_OCTETS, file);
+    fclose(file);
+    return length;
+}
+
+/* Installs the root and writes its id, or admits a certificate below it. */
+static uint8_t put(uint8_t *store, const char *name, int is_root, uint8_t *id)
+{
+    uint8_t certificate[MOST_OCTETS];
+    size_t length = read_file(name, certificate);
+    if (!is_root)
+        return nattveldi_admit(store, NATTVELDI_STORE_LENGTH, certificate, length, GOOD);
+    nattveldi_id(certificate, length, id, ID_LENGTH);
+    return nattveldi_install(store, NATTVELDI_STORE_LENGTH, certificate, length, GOOD);
+}
+
+/* A slot starts with the id; the state is two bits behind the issuer's id. */
+static void print_slot(const uint8_t *store, int slot)
+{
+    const uint8_t *octets = store + slot * SLOT_LENGTH;
+    int i;
+    printf("slot %d ", slot);
+    for (i = 0; i < ID_LENGTH; i++)
+        printf("%02x", octets[i]);
+    printf("%s\n", octets[16] >> 6 == 2 ? " withdrawn" : "");
+}
+
+/* What stands now and would not after the withdrawal, as a console shows it. */
+static void draw(const uint8_t *store, const uint8_t *id, uint32_t second)
+{
+    uint8_t list[NATTVELDI_LIST_LENGTH];
+    int32_t i, n = nattveldi_list(store, NATTVELDI_STORE_LENGTH, id, ID_LENGTH, second,
+                                  list, sizeof list);
+    if (n < 0) {
+        printf("list refused %d\n", (int)-n);
+        return;
+    }
+    printf("withdraw this? %d would no longer stand:\n", (int)n);
+    for (i = 0; i < n; i++)
+        print_slot(store, list[i]);
+}
+
+/* The same as the text of the program `page`. */
+static void print_page(const uint8_t *store, const uint8_t *id, uint32_t second)
+{
+    static uint8_t input[NATTVELDI_STORE_LENGTH + ID_LENGTH + 4], text[NATTVELDI_PAGE_LENGTH];
+    int i;
+    memcpy(input, store, NATTVELDI_STORE_LENGTH);
+    memcpy(input + NATTVELDI_STORE_LENGTH, id, ID_LENGTH);
+    for (i = 0; i < 4; i++)
+        input[NATTVELDI_STORE_LENGTH + ID_LENGTH + i] = (uint8_t)(second >> (24 - 8 * i));
+    fwrite(text, 1, nattveldi_page(input, sizeof input, text, sizeof text), stdout);
+}
+
+int main(int count, char **words)
+{
+    static uint8_t store[NATTVELDI_STORE_LENGTH]; /* zeros: an empty store */
+    uint8_t id[ID_LENGTH] = {0}, number;
+    uint32_t second = count > 1 ? (uint32_t)strtoul(words[1], NULL, 10) : 0;
+    int i;
+    for (i = 2; i < count; i++)
+        printf("%s %d\n", i == 2 ? "install" : "admit", put(store, words[i], i == 2, id));
+    draw(store, id, second);
+    print_page(store, id, second);
+    number = nattveldi_withdraw(store, sizeof store, id, sizeof id);
+    printf("withdraw %d\n", number);
+    draw(store, id, second);
+    for (i = 0; i < SLOTS; i++)
+        if (store[i * SLOT_LENGTH + 16] >> 6 != 0)
+            print_slot(store, i);
+    return number != NATTVELDI_ACCEPTED;
+}

@@ -1,0 +1,54 @@
+//! Which certificates of a store stand, worked out from entries, without any
+//! octets (paper 01, "How a chain is walked").
+
+use crate::entry::{Entry, Slots, WITHDRAWN};
+use crate::expect;
+use crate::plan::ROOT;
+use crate::slot::SLOTS;
+
+/// How many certificates a chain may have.
+pub const MOST_CERTIFICATES: usize = 8;
+/// The refusal of a chain that has more.
+pub const CHAIN_TOO_LONG: u8 = 18;
+
+/// The walk from a certificate up to a root, without the signer-kind test and
+/// without a position: how many certificates it passes, or why it stops.
+pub fn walk(slots: &Slots, certificate: &Entry, second: u32) -> Result<usize, u8> {
+    climb(slots, certificate, second.into(), 1)
+}
+
+/// The walk from the certificate that is the `count`th of the chain.
+fn climb(slots: &Slots, certificate: &Entry, second: u64, count: usize) -> Result<usize, u8> {
+    if certificate.state == WITHDRAWN {
+        return Err(8);
+    }
+    if second < certificate.start.into() || second >= certificate.end {
+        return Err(12);
+    }
+    if certificate.kind == ROOT {
+        return Ok(count);
+    }
+    if count == MOST_CERTIFICATES {
+        return Err(CHAIN_TOO_LONG);
+    }
+    let issuer = expect::find(slots, certificate.issuer).ok_or(7)?;
+    expect::issued(certificate, issuer)?;
+    climb(slots, issuer, second, count + 1)
+}
+
+/// Whether each slot holds a certificate that stands.
+pub fn standing(slots: &Slots, second: u32) -> [bool; SLOTS] {
+    let stands = |entry: &Entry| walk(slots, entry, second).is_ok();
+    std::array::from_fn(|slot| slots[slot].as_ref().is_some_and(stands))
+}
+
+/// The slots that stand before the withdrawal of one of them and not after.
+pub fn fallen(slots: &Slots, withdrawn: usize, second: u32) -> Vec<u8> {
+    let mut after = slots.clone();
+    if let Some(entry) = &mut after[withdrawn] {
+        entry.state = WITHDRAWN;
+    }
+    let (before, after) = (standing(slots, second), standing(&after, second));
+    let fell = |slot: &u8| before[usize::from(*slot)] && !after[usize::from(*slot)];
+    (0..SLOTS as u8).filter(fell).collect()
+}

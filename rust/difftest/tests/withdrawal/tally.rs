@@ -1,0 +1,143 @@
+//! What came up in random questions.
+
+use std::collections::{BTreeMap, BTreeSet};
+
+use difftest::entry::{Entry, Slots};
+use difftest::plan::ROOT;
+use difftest::questions::{self, Made};
+use difftest::slot::SLOTS;
+use difftest::standing::{self, CHAIN_TOO_LONG};
+use difftest::{expect, outcome};
+
+/// What must come up in 20,000 questions, and how often at least: about half
+/// of what is usual, so that chance does not decide.
+const FLOORS: [(&str, u64); 41] = [
+    ("list 0, n = 0", 3_000),
+    ("list 0, n = 1", 1_500),
+    ("list 0, n = 2 to 8", 1_200),
+    ("list 0, n > 8", 90),
+    ("list 1", 1_500),
+    ("list 2", 800),
+    ("list 7", 400),
+    ("list 8", 500),
+    ("withdraw 0", 6_000),
+    ("withdraw 1", 1_200),
+    ("withdraw 2", 800),
+    ("withdraw 7", 400),
+    ("withdraw 8", 500),
+    ("page, 0 rows", 700),
+    ("page, 1 row", 350),
+    ("page, more rows", 400),
+    ("page, refused 1", 300),
+    ("page, refused 2", 200),
+    ("page, refused 7", 100),
+    ("page, refused 8", 130),
+    ("a list of more than 64 octets, accepted", 100),
+    ("stands in a chain of 1", 1_200),
+    ("stands in a chain of 2", 500),
+    ("stands in a chain of 3", 400),
+    ("stands in a chain of 4", 350),
+    ("stands in a chain of 5", 250),
+    ("stands in a chain of 6", 200),
+    ("stands in a chain of 7", 180),
+    ("stands in a chain of 8", 150),
+    ("stands above a chain that is too long", 300),
+    ("does not stand, 7", 170),
+    ("does not stand, 8", 90),
+    ("does not stand, 10", 180),
+    ("does not stand, 11", 90),
+    ("does not stand, 12 at the second", 1_000),
+    ("does not stand, 12 further up", 100),
+    ("does not stand, 13", 250),
+    ("does not stand, 18 in a chain of 9", 100),
+    ("does not stand, 18 in a chain of 10 to 12", 150),
+    ("does not stand, 18 in a longer chain", 50),
+    ("does not stand, 18 in a ring", 40),
+];
+const FLOORS_ARE_OF: u64 = 20_000;
+
+#[derive(Default)]
+pub struct Tally {
+    pub outcomes: BTreeMap<String, u64>,
+    /// How many questions had their answer from the paper.
+    pub known: u64,
+    /// The numbers of the list where there was one trouble alone.
+    troubles: BTreeMap<&'static str, BTreeSet<u8>>,
+}
+
+impl Tally {
+    pub fn count(&mut self, outcome: String) {
+        *self.outcomes.entry(outcome).or_default() += 1;
+    }
+
+    /// Counts a question by its troubles and by how its certificate stands.
+    pub fn add(&mut self, made: &Made, number: u8) {
+        if let [trouble] = made.how[..] {
+            self.troubles.entry(trouble).or_default().insert(number);
+        }
+        if number == 0 && made.list.list.len() > SLOTS {
+            self.count("a list of more than 64 octets, accepted".into());
+        }
+        if let Some(Ok(slots)) = &made.contents {
+            if let Ok(at) = outcome::held(slots, &made.list.id) {
+                let asked = slots[at].as_ref().expect("a filled slot");
+                self.add_standing(slots, asked, made.list.second);
+            }
+        }
+    }
+
+    fn add_standing(&mut self, slots: &Slots, asked: &Entry, second: u32) {
+        let in_period = (u64::from(asked.start)..asked.end).contains(&second.into());
+        let outcome = match standing::walk(slots, asked, second) {
+            Ok(length) => format!("stands in a chain of {length}"),
+            Err(CHAIN_TOO_LONG) => too_long(chain(slots, asked).count()),
+            Err(12) if in_period => "does not stand, 12 further up".into(),
+            Err(12) => "does not stand, 12 at the second".into(),
+            Err(number) => format!("does not stand, {number}"),
+        };
+        let stands = outcome.starts_with("stands");
+        self.count(outcome);
+        let fails = |entry: &&Entry| standing::walk(slots, entry, second) == Err(CHAIN_TOO_LONG);
+        let mut too_deep = slots.iter().flatten().filter(fails);
+        if stands && too_deep.any(|entry| chain(slots, entry).any(|above| above.id == asked.id)) {
+            self.count("stands above a chain that is too long".into());
+        }
+    }
+
+    pub fn check(&self, cases: u64, replay: &str) {
+        for (outcome, floor) in FLOORS {
+            let seen = self.outcomes.get(outcome).copied().unwrap_or(0);
+            assert!(
+                seen * FLOORS_ARE_OF >= floor * cases,
+                "{replay}: {outcome}: {seen} times in {cases}"
+            );
+        }
+        let known = self.known;
+        assert!(10 * known >= 9 * cases, "{replay}: {known} answers known");
+        for (trouble, _) in questions::TROUBLES {
+            let numbers = self.troubles.get(trouble);
+            let numbers = numbers.unwrap_or_else(|| panic!("{replay}: no case of {trouble}"));
+            let refused = numbers.iter().any(|&number| number != 0);
+            assert!(refused, "{replay}: {trouble} answered {numbers:?}");
+        }
+    }
+}
+
+/// The certificates from one upward; more than a store has, in a ring.
+fn chain<'a>(slots: &'a Slots, entry: &'a Entry) -> impl Iterator<Item = &'a Entry> {
+    let above = |entry: &&'a Entry| match entry.kind {
+        ROOT => None,
+        _ => expect::find(slots, entry.issuer),
+    };
+    std::iter::successors(Some(entry), above).take(SLOTS + 1)
+}
+
+fn too_long(length: usize) -> String {
+    let which = match length {
+        ..=9 => "a chain of 9",
+        10..=12 => "a chain of 10 to 12",
+        13..=SLOTS => "a longer chain",
+        _ => "a ring",
+    };
+    format!("does not stand, 18 in {which}")
+}
