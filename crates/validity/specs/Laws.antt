@@ -6,8 +6,8 @@ use mathlib.Core.List.{List}
 use mathlib.Core.Logic.{_↔_}
 use lib.ListN.{length}
 use Rattle.bitfields.specs.Field.{Octets}
-use Rattle.store.specs.Slots.{GONE, slotOf, filledAt, idAt}
-use Rattle.store.specs.Laws.{withState}
+use Rattle.store.specs.Slots.{GONE, slotOf, filledAt}
+use Rattle.store.specs.Laws.{Distinct, withState}
 use Rattle.validity.specs.Good.{goodSlot}
 use Rattle.validity.specs.Valid.{validStore}
 
@@ -17,7 +17,7 @@ pub record Valid (l : List ℕ) : Type 0 where
   -- each slot keeps the rules
   pub slots : (i : ℕ) → i < 64 → goodSlot (slotOf l i) ≡ true
   -- no two filled slots share an id
-  pub distinct : (i j : ℕ) → i < 64 → j < 64 → filledAt l i ≡ true → filledAt l j ≡ true → idAt l i ≡ idAt l j → i ≡ j
+  pub distinct : Distinct l
 
 pub record Laws : Type 0 where
   -- the check passes those stores and no others
