@@ -21,21 +21,31 @@ extern "C" {
 /* The answers. */
 enum {
     NATTVELDI_ACCEPTED = 0,
-    NATTVELDI_BAD_CALL = 1,         /* a buffer is too short, a store is not 13,568 octets, or an id not 8 */
+    NATTVELDI_BAD_CALL = 1,         /* a buffer is too short, a store is not 13,568 octets, an id not 8,
+                                     * a position is out of range, or an age is over 600,000,000 */
     NATTVELDI_BAD_STORE = 2,        /* a store against its own rules */
-    NATTVELDI_TOO_LONG = 3,         /* a certificate of more than 1,024 octets */
+    NATTVELDI_TOO_LONG = 3,         /* a certificate of more than 1,024 octets, or a message of more than
+                                     * 2,048 */
     NATTVELDI_CUT = 4,              /* a field or vector passes the end of what holds it */
     NATTVELDI_MALFORMED = 5,        /* against the layout's rules */
     NATTVELDI_UNSUPPORTED = 6,      /* a version, type or algorithm that is not read here */
-    NATTVELDI_UNKNOWN = 7,          /* the issuer, or the id that is asked for, is not in the store */
-    NATTVELDI_WITHDRAWN = 8,        /* the issuer, or the certificate under the id, is withdrawn */
-    NATTVELDI_WRONG_KIND = 10,      /* a kind that the call does not take, or an issuer that is a ticket */
-    NATTVELDI_NOT_PERMITTED = 11,   /* a permission that the issuer lacks */
-    NATTVELDI_OUTSIDE_PERIOD = 12,  /* a period that is not inside the issuer's */
-    NATTVELDI_OUTSIDE_PLACE = 13,   /* a region that is not inside the issuer's */
-    NATTVELDI_BAD_SIGNATURE = 15,   /* the verdict on the signature is not good */
+    NATTVELDI_UNKNOWN = 7,          /* an issuer, a message's signer, or the id that is asked for, is not in
+                                     * the store */
+    NATTVELDI_WITHDRAWN = 8,        /* an issuer, a message's signer, or the certificate under the id, is
+                                     * withdrawn */
+    NATTVELDI_OTHER_CERTIFICATE = 9, /* the store has another certificate under the id of a message's */
+    NATTVELDI_WRONG_KIND = 10,      /* a kind that the call does not take, an issuer that is a ticket, or a
+                                     * message's signer that is none */
+    NATTVELDI_NOT_PERMITTED = 11,   /* a permission that the issuer, or a message's signer, lacks */
+    NATTVELDI_OUTSIDE_PERIOD = 12,  /* a period that is not inside the issuer's, or a message's second
+                                     * outside a period */
+    NATTVELDI_OUTSIDE_PLACE = 13,   /* a region that is not inside the issuer's, or a message's position
+                                     * outside a region */
+    NATTVELDI_OUT_OF_DATE = 14,     /* a message from too long ago or too far ahead, or expired */
+    NATTVELDI_BAD_SIGNATURE = 15,   /* a verdict on a signature is not good */
     NATTVELDI_FULL = 16,            /* no slot of the store is empty */
-    NATTVELDI_ALREADY_HELD = 17     /* the id is in the store, held or withdrawn */
+    NATTVELDI_ALREADY_HELD = 17,    /* the id is in the store, held or withdrawn */
+    NATTVELDI_CHAIN_TOO_LONG = 18   /* the eighth certificate from a message's signer upward is no root */
 };
 
 /* The fields of a certificate: 90 words of 4 octets, big-endian, 360 octets
@@ -154,6 +164,103 @@ uint8_t nattveldi_withdraw(uint8_t *store, size_t store_length,
  */
 uint32_t nattveldi_page(const uint8_t *input, size_t input_length,
                         uint8_t *text, size_t text_length);
+
+/* A signed message is judged in two calls with the same arguments.
+ * nattveldi_prepare makes every test but those of signatures, and writes the
+ * questions that the caller then puts to the chip: is this signature, over
+ * these octets, good under this key? nattveldi_decide gets the chip's verdicts,
+ * makes every test again, so that nothing needs to be kept in between, and
+ * writes what was accepted.
+ *
+ * `now` counts microseconds since the start of 2004 (TAI). `latitude` and
+ * `longitude` are the caller's own position in tenths of a microdegree, at most
+ * 900,000,000 and 1,800,000,000 to either side of 0; it counts where the
+ * message has no location, and must be in range where it has one. `age` is by
+ * how many microseconds the generation time may differ from now, at most
+ * 600,000,000; 0 stands for 2,000,000.
+ *
+ * The questions are two, of 52 octets each: the message's, and that of the
+ * certificate which the message brings along, all zero if it names its signer
+ * by id. The decision is 28 octets. The offsets below count octets. A word is 4
+ * octets, big-endian, and a part two words, start and length: it names octets
+ * of the message that was passed.
+ */
+#define NATTVELDI_QUESTIONS_LENGTH 104
+#define NATTVELDI_DECISION_LENGTH 28
+
+enum {
+    NATTVELDI_MESSAGE_QUESTION = 0,
+    NATTVELDI_CERTIFICATE_QUESTION = 52
+};
+
+/* In a question. */
+enum {
+    NATTVELDI_QUESTION_SIGNED = 0,      /* part: what the signature covers */
+    NATTVELDI_QUESTION_SIGNATURE = 8,   /* part: the whole signature structure, 66 octets */
+    NATTVELDI_QUESTION_KEY_TYPE = 16,   /* word: point type of the key, 2 or 3; 0 if there is no question */
+    NATTVELDI_QUESTION_KEY = 20         /* the key's 32 octets */
+};
+
+/* In a decision. */
+enum {
+    NATTVELDI_DECISION_PAYLOAD = 0,         /* part: the payload, which may be empty */
+    NATTVELDI_DECISION_SIGNER = 8,          /* the id of the signer's certificate, 8 octets */
+    NATTVELDI_DECISION_PERMISSION = 16,     /* word: the ITS-AID under which it was sent */
+    NATTVELDI_DECISION_GENERATION_TIME = 20 /* 8 octets, big-endian: microseconds since the start of 2004 */
+};
+
+/* Works out what the chip is to be asked about a message, and writes it to the
+ * first 104 octets of `questions`; the octets behind them stay. The key of the
+ * message's question is that of the signer's certificate; the key of the
+ * certificate's question is that of its issuer in the store.
+ *
+ * Answers as nattveldi_decide does with two verdicts of 1, so never 15, but
+ * with 1 if questions_length is under 104. In a refusal `questions` stays as it
+ * was.
+ */
+uint8_t nattveldi_prepare(const uint8_t *store, size_t store_length,
+                          const uint8_t *message, size_t message_length,
+                          uint64_t now, int32_t latitude, int32_t longitude, uint64_t age,
+                          uint8_t *questions, size_t questions_length);
+
+/* Decides a message, and writes what it says to the first 28 octets of
+ * `decision`; the octets behind them stay. `verdict` is the chip's octet on the
+ * message's question, `certificate_verdict` that on its certificate's, which
+ * counts for nothing where the message brings none: 1 good, any other bad.
+ *
+ * Answers the first of these that applies:
+ *   1   decision_length is under 28, store_length not 13,568, the position is
+ *       out of range, or the age over 600,000,000
+ *   2   the store is bad
+ *   3   the message has more than 2,048 octets; then 4, 5, 6 as reading goes
+ *   14  the generation time and now differ by more than the age, or the message
+ *       expired at or before the whole second of now
+ *   8   the certificate that it brings is stored and withdrawn
+ *   9   what is stored under that certificate's id is another certificate
+ *   7   or, where it names its signer by id, that is not stored
+ *   10  the signer is no ticket
+ * and then, for each certificate from the signer upward to a root, at the whole
+ * second of generation and at the message's location or else the caller's own:
+ *   8   it is withdrawn
+ *   12  the second is outside its period
+ *   13  the position is outside its region
+ *   18  it is no root, and the eighth
+ *   7   its issuer is not stored
+ *   10  its issuer is a ticket
+ *   11  it has a permission that its issuer lacks
+ *   12  its period is not inside its issuer's
+ *   13  its region is not inside its issuer's
+ * and then:
+ *   11  the ITS-AID of the message is not among the signer's permissions
+ *   15  certificate_verdict is not 1, where the message brings a certificate
+ *   15  verdict is not 1
+ * In a refusal `decision` stays as it was.
+ */
+uint8_t nattveldi_decide(const uint8_t *store, size_t store_length,
+                         const uint8_t *message, size_t message_length,
+                         uint64_t now, int32_t latitude, int32_t longitude, uint64_t age,
+                         uint8_t verdict, uint8_t certificate_verdict,
+                         uint8_t *decision, size_t decision_length);
 
 #ifdef __cplusplus
 }

@@ -20,13 +20,15 @@ use Rattle.store.proofs.Places.{slot-same, slot-other, length-withSlot}
 use Rattle.store.proofs.Stored.{stored-back, stored-state, stored-id, other-state, other-id}
 use Rattle.validity.specs.Good.{goodSlot}
 use Rattle.validity.specs.Laws.{Valid}
-use Rattle.admission.specs.Stored.{recordFrom}
+use Rattle.entries.specs.Stored.{recordFrom}
 use Rattle.admission.specs.Order.{entered}
-use Rattle.admission.specs.Admitted.{Holds, LowestEmpty, Entered}
+use Rattle.store.specs.Laws.{Holds}
+use Rattle.admission.specs.Admitted.{LowestEmpty, Entered}
 use Rattle.admission.specs.Filled.{oneIf, filledBelow}
 use Rattle.admission.specs.Laws.{OneMore}
-use Rattle.admission.proofs.Facts.{facts}
-use Rattle.admission.proofs.Rules.{rules, sized}
+use Rattle.entries.proofs.Facts.{facts}
+use Rattle.entries.proofs.Rules.{rules}
+use Rattle.entries.proofs.Whole.{whole-of}
 use Rattle.admission.proofs.Good.{good}
 use Rattle.admission.proofs.Entered.{pair}
 use Rattle.admission.proofs.Exactly.{found-exactly, refused-keeps}
@@ -135,16 +137,16 @@ module _ (store octets : List ℕ) (verdict : ℕ) (c : Certificate) (after : Li
   pub one-more : OneMore store octets c after
   one-more =
       let r = recordFrom octets c in
-      let f = facts octets c are (e .reads) in
-      let z = sized octets c are (e .reads) in
+      let stands = whole-of octets c are (e .reads) .standing in
+      let f = facts octets c are stands in
       let i = e .slot in
       let free = e .lowest-empty in
-      let put = stored-facts store i r (e .valid) free (f .in-range) z (rules octets c are (e .reads) .held) (good octets c are (e .reads)) (e .not-held) in
+      let put = stored-facts store i r (e .valid) free (f .in-range) (f .sized) (rules octets c are stands .held) (good octets c are stands) (e .not-held) in
       subst (λ (l : List ℕ). OneMore store octets c l) (sym (e .written)) (record {
         valid = put .valid;
         slot = i;
         lowest-empty = free;
-        holds = stored-back store i r (e .size) (free .slot) (f .in-range) z;
+        holds = stored-back store i r (e .size) (free .slot) (f .in-range) (f .sized);
         held = put .held;
         id = put .id;
         others = put .others;

@@ -20,10 +20,10 @@ use Rattle.records.specs.declared.Record.{Record}
 use Rattle.store.specs.Slots.{withSlot}
 use Rattle.store.specs.Search.{lowestEmpty}
 use Rattle.validity.specs.Valid.{validStore}
-use Rattle.chain.specs.Stored.{slotOr}
-use Rattle.admission.specs.Readable.{accepted}
-use Rattle.admission.specs.Stored.{recordFrom}
-use Rattle.admission.specs.Order.{answered, wanted, testing, testNumber, placing, entering, leaving, placed, entered}
+use Rattle.chain.specs.Stored.{answered, slotOr}
+use Rattle.entries.specs.Readable.{accepted}
+use Rattle.entries.specs.Stored.{recordFrom}
+use Rattle.admission.specs.Order.{wanted, testing, testNumber, placing, entering, leaving, placed, entered}
 use Rattle.admission.proofs.Tests.{test-gives, test-stops}
 
 -- ---- a record that is to go into the store

@@ -13,7 +13,6 @@ use lib.Dec.{eqb}
 use borrow.Author.Tests.{eq-eqb, ne-eqb, eqb-true}
 use Rattle.order.specs.Steps.{Answer, gives, refused, number as answerNumber, done, run, rows, First, Gives, Refuses, Named, Numbered, Well, well}
 use Rattle.order.proofs.Steps.{gives-refused, gives-exactly, number-exactly, refuses-at, run-named, needs-to, needs-from}
-use Rattle.octets.specs.Forward.{Forward}
 use Rattle.octets.specs.Reading.{Out, got, refused as unread}
 use Rattle.certificate.specs.Operations.{whole, answerOf, readingOf}
 use Rattle.certificate.specs.declared.certificates.Certificate.{Certificate}
@@ -27,15 +26,17 @@ use Rattle.records.specs.Records.{scopeOf}
 use Rattle.records.specs.declared.Record.{Record}
 use Rattle.store.specs.Slots.{storeLength, slotOf, EMPTY, stateAt, filledAt}
 use Rattle.store.specs.Search.{find, lowestEmpty}
-use Rattle.store.proofs.Found.{find-finds, find-none, find-only, empty-finds, empty-none}
+use Rattle.store.specs.Laws.{Holds}
+use Rattle.store.proofs.Found.{find-none, found-to, found-from, empty-finds, empty-none}
 use Rattle.validity.specs.Laws.{Valid}
 use Rattle.validity.proofs.Laws.{laws as valid-laws}
-use Rattle.chain.specs.Stored.{slotOr}
-use Rattle.admission.specs.Readable.{accepted}
-use Rattle.admission.specs.Stored.{recordFrom}
-use Rattle.admission.specs.Order.{answered, wanted, absent, issuerSteps, entering, leaving, entered, installed, admitted}
-use Rattle.admission.specs.Admitted.{Holds, LowestEmpty, Entered, Issuer, Installed, Admitted}
-use Rattle.admission.proofs.Tests.{issuer-numbered, slot-named}
+use Rattle.chain.specs.Stored.{answered, slotOr}
+use Rattle.chain.proofs.Answers.{slot-named, slot-given, read-named}
+use Rattle.entries.specs.Readable.{accepted}
+use Rattle.entries.specs.Stored.{recordFrom}
+use Rattle.admission.specs.Order.{wanted, absent, issuerSteps, entering, leaving, entered, installed, admitted}
+use Rattle.admission.specs.Admitted.{LowestEmpty, Entered, Issuer, Installed, Admitted}
+use Rattle.admission.proofs.Tests.{issuer-numbered}
 use Rattle.admission.proofs.Entered.{read-gives}
 
 -- ---- searches
@@ -59,12 +60,6 @@ lowest-from l i h = by (lowestEmpty l) refl
     by none e = absurd (empty-not l i (h .empty) (empty-none l e i (h .slot)))
     by (some j) e = ap (λ (k : ℕ). some k) (same-lowest l i j h (lowest-to l j e))
 
-found-to : (l : List ℕ) (id i : ℕ) → find l id ≡ some i → Holds l id i
-found-to l id i e = let f = find-finds l id i e in record { slot = f .0; filled = f .1; has-id = f .2 }
-
-found-from : (l : List ℕ) (id i : ℕ) → Valid l → Holds l id i → find l id ≡ some i
-found-from l id i v h = ap (find l) (sym (h .has-id)) ∙ find-only l (v .distinct) i (h .slot) (h .filled)
-
 absent-to : (l : List ℕ) (id : ℕ) → absent (find l id) ≡ true → (i : ℕ) → ¬ (Holds l id i)
 absent-to l id e i h = by (find l id) refl e
   where
@@ -79,14 +74,6 @@ absent-from l id n = by (find l id) refl
     by none f = refl
     by (some j) f = absurd (n j (found-to l id j f))
 
-slot-given : (k : ℕ) (o : Option ℕ) (i : ℕ) → slotOr k o ≡ gives i → o ≡ some i
-slot-given k none i e = absurd (gives-refused i k e)
-slot-given k (some j) i e = ap (λ (a : Answer ℕ). slotIn a) e
-  where
-    slotIn : Answer ℕ → Option ℕ
-    slotIn (gives n) = some n
-    slotIn (refused n) = none
-
 -- ---- reading
 
 read-to : (s : List ℕ) (c : Certificate) → answered (whole s) ≡ gives c → readingOf s ≡ accepted c
@@ -100,11 +87,6 @@ read-to s c = by (whole s)
         readIn d (gives y) = accepted y
         readIn d (refused n) = accepted d
     by (unread n) e = absurd (gives-refused c n e)
-
-read-named : (o : Out Certificate) → Forward 0 o → Named (answered o)
-read-named (got c end) h = tt
-read-named (unread zero) h = absurd (omega (arith, h .0))
-read-named (unread (suc n)) h = tt
 
 -- ---- the issuer
 
@@ -131,7 +113,7 @@ module _ (store : List ℕ) (r : Record) where
   issuer-from v h =
       gives-exactly (issuerSteps false store r) well .1 (
         h .slot,
-        ap (slotOr 7) (found-from store (number (r .issuer)) (h .slot) v (h .stored)),
+        ap (slotOr 7) (found-from store (number (r .issuer)) (h .slot) (v .distinct) (h .stored)),
         (
           held-from (stateAt store (h .slot)) (h .not-withdrawn),
           needs-from (issuedRows (r .scope) (scopeOf (slotOf store (h .slot)))) (done well) well

@@ -1,4 +1,4 @@
--- The image of a record that keeps the store's rules is a good slot; so is that of each certificate that is read. Assumes nothing.
+-- The image of a record that keeps the store's rules is a good slot; so is that of each certificate that stands in octets. Assumes nothing.
 use Prim.Native.Nat.{ℕ, _≤_}
 use mathlib.Core.Path.{_≡_, ap, _∙_}
 use mathlib.Core.Bool.{Bool, true, false, _&&_, _||_}
@@ -10,7 +10,6 @@ use lib.Dec.{eqb}
 use lib.ListN.{getD, replicate, getD-replicate}
 use Rattle.octets.specs.Reading.{pick}
 use Rattle.geo.proofs.Bools.{and-join}
-use Rattle.certificate.specs.Operations.{readingOf}
 use Rattle.certificate.specs.declared.certificates.Certificate.{Certificate}
 use Rattle.bitfields.specs.Field.{Octets}
 use Rattle.bitfields.specs.Zero.{zeroBits}
@@ -23,10 +22,10 @@ use Rattle.records.proofs.Fields.{image-long, image-issuer, image-state, image-
 use Rattle.records.proofs.Unused.{image-name-unused, image-permissions-unused, image-rectangles-unused}
 use Rattle.validity.proofs.Each.{each-all}
 use Rattle.validity.specs.Good.{goodKind, goodPeriod, goodName, goodRectangle, rectangleGood, goodRegion, goodPermissions, goodPadding, goodRecord, goodSlot, latestEnd}
-use Rattle.admission.specs.Readable.{accepted}
-use Rattle.admission.specs.Stored.{recordFrom}
-use Rattle.admission.proofs.Facts.{facts}
-use Rattle.admission.proofs.Rules.{Rules, rules, sized}
+use Rattle.entries.specs.Standing.{Standing}
+use Rattle.entries.specs.Stored.{recordFrom}
+use Rattle.entries.proofs.Facts.{facts}
+use Rattle.entries.proofs.Rules.{Rules, rules}
 
 -- one of the three kinds
 kind-test : (v : ℕ) (z : Bool) → (v ≡ 1) ⊎ ((v ≡ 2) ⊎ ((v ≡ 4) × (z ≡ true))) → eqb v 1 || eqb v 2 || (eqb v 4 && z) ≡ true
@@ -92,6 +91,5 @@ module _ (r : Record) (ranged : InRange r) (fits : Sized r) (keeps : Rules r) wh
       ap (λ (n : ℕ). pick (eqb n 0) (zeroBits (imageOf r) 0 1696) (pick (eqb n 3) false (goodRecord (imageOf r)))) (image-state r ranged fits ∙ keeps .held)
       ∙ record-good
 
-module _ (s : List ℕ) (c : Certificate) (o : Octets s) (e : readingOf s ≡ accepted c) where
-  pub good : goodSlot (imageOf (recordFrom s c)) ≡ true
-  good = image-good (recordFrom s c) (facts s c o e .in-range) (sized s c o e) (rules s c o e)
+pub good : (s : List ℕ) (c : Certificate) → Octets s → Standing s c → goodSlot (imageOf (recordFrom s c)) ≡ true
+good s c o e = let f = facts s c o e in image-good (recordFrom s c) (f .in-range) (f .sized) (rules s c o e)

@@ -1,13 +1,15 @@
 -- What is proved of install and admit. Assumes nothing.
 use Rattle.admission.specs.Laws.{Laws}
-use Rattle.admission.proofs.Kept.{kept-of}
+use Rattle.entries.proofs.Kept.{kept-of}
+use Rattle.entries.proofs.Whole.{whole-of}
 use Rattle.admission.proofs.Exactly.{installed-exactly, admitted-exactly, refused-exactly, refused-first, refused-keeps}
 use Rattle.admission.proofs.After.{one-more, stays-valid}
 
 pub laws : Laws
 laws =
     record {
-      kept = kept-of;
+      kept = λ s c o e. kept-of s c o (whole-of s c o e .standing);
+      whole = whole-of;
       installed-exactly = installed-exactly;
       admitted-exactly = admitted-exactly;
       refused-exactly = refused-exactly;

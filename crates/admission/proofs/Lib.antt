@@ -1,13 +1,3 @@
-pub mod Fronts
-pub mod Padded
-pub mod Periods
-pub mod Parts
-pub mod Allowed
-pub mod Facts
-pub mod Kept
-pub mod Hashes
-pub mod Rectangles
-pub mod Rules
 pub mod Good
 pub mod Tests
 pub mod Entered

@@ -17,6 +17,7 @@ use Rattle.records.specs.declared.Record.{Record}
 use Rattle.store.specs.Slots.{slotOf, withdrawnAt}
 use Rattle.store.specs.Search.{find}
 use Rattle.chain.specs.Stored.{slotOr}
+use Rattle.chain.proofs.Answers.{slot-named}
 use Rattle.admission.specs.Order.{absent, belowIssuer, belowNumber, issuerNumber, issuerSteps, issuerRefusal, testing, testNumber}
 
 -- an answer that gives nothing but its passing is known by its number
@@ -48,10 +49,6 @@ module _ (store : List ℕ) (id : ℕ) (subject : Scope) where
   pub issuer-found : (i : ℕ) → find store id ≡ some i → belowNumber store subject i ≡ issuerNumber store id subject
   unfolding issuerNumber belowNumber
   issuer-found i e = sym (ap answerNumber (takes (ap (slotOr 7) e) (belowIssuer store subject)))
-
-pub slot-named : (k : ℕ) (o : Option ℕ) → Named (slotOr (suc k) o)
-slot-named k none = tt
-slot-named k (some i) = tt
 
 pub issuer-numbered : (anchor : Bool) (store : List ℕ) (r : Record) → Numbered (issuerSteps anchor store r)
 issuer-numbered true store r = tt

@@ -11,16 +11,11 @@ use Rattle.bitfields.specs.Field.{number}
 use Rattle.scope.specs.Issued.{IssuedBy}
 use Rattle.records.specs.Records.{scopeOf, imageOf}
 use Rattle.records.specs.declared.Record.{Record}
-use Rattle.store.specs.Slots.{storeLength, slotOf, withSlot, EMPTY, GONE, stateAt, filledAt, idAt}
+use Rattle.store.specs.Slots.{storeLength, slotOf, withSlot, EMPTY, GONE, stateAt, filledAt}
+use Rattle.store.specs.Laws.{Holds}
 use Rattle.validity.specs.Laws.{Valid}
-use Rattle.admission.specs.Readable.{accepted}
-use Rattle.admission.specs.Stored.{recordFrom}
-
--- slot i holds a certificate with this id
-pub record Holds (store : List ℕ) (id i : ℕ) : Type 0 where
-  pub slot : i < 64
-  pub filled : filledAt store i ≡ true
-  pub has-id : idAt store i ≡ id
+use Rattle.entries.specs.Readable.{accepted}
+use Rattle.entries.specs.Stored.{recordFrom}
 
 -- the lowest empty slot
 pub record LowestEmpty (store : List ℕ) (i : ℕ) : Type 0 where

@@ -11,9 +11,10 @@ use Rattle.bitfields.specs.Field.{number, Octets}
 use Rattle.records.specs.Records.{recordOf}
 use Rattle.store.specs.Slots.{slotOf, HELD, stateAt, idAt}
 use Rattle.validity.specs.Laws.{Valid}
-use Rattle.admission.specs.Readable.{accepted}
-use Rattle.admission.specs.Stored.{recordFrom}
-use Rattle.admission.specs.Kept.{Kept}
+use Rattle.entries.specs.Readable.{accepted}
+use Rattle.entries.specs.Stored.{recordFrom}
+use Rattle.entries.specs.Kept.{Kept}
+use Rattle.entries.specs.Whole.{Whole}
 use Rattle.admission.specs.Order.{entering, entered, installed, admitted}
 use Rattle.admission.specs.Admitted.{LowestEmpty, Entered, Installed, Admitted}
 use Rattle.admission.specs.Filled.{filledBelow}
@@ -34,6 +35,8 @@ pub record OneMore (store octets : List ℕ) (c : Certificate) (after : List ℕ
 pub record Laws : Type 0 where
   -- what is kept of a certificate is what its contents say, with the id of the certificate
   pub kept : (octets : List ℕ) (c : Certificate) → Octets octets → readingOf octets ≡ accepted c → Kept octets c
+  -- all octets are those of the certificate, and the id that is kept is its id
+  pub whole : (octets : List ℕ) (c : Certificate) → Octets octets → readingOf octets ≡ accepted c → Whole octets c
   -- accepted exactly if the rules hold
   pub installed-exactly : (store octets : List ℕ) (verdict : ℕ) (after : List ℕ) → (installed store octets verdict ≡ (0, after)) ↔ Installed store octets verdict after
   pub admitted-exactly : (store octets : List ℕ) (verdict : ℕ) (after : List ℕ) → (admitted store octets verdict ≡ (0, after)) ↔ Admitted store octets verdict after

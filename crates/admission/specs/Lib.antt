@@ -1,6 +1,3 @@
-pub mod Readable
-pub mod Stored
-pub mod Kept
 pub mod Order
 pub mod Admitted
 pub mod Filled

@@ -7,9 +7,8 @@ use lib.ListN.{length}
 use lib.Dec.{eqb}
 use Rattle.order.specs.Steps.{Answer, gives, refused, number as answerNumber, Steps, done, need, take, needs, follow, run, Well, well}
 use Rattle.octets.specs.Refusals.{ACCEPTED, BAD-CALL, BAD-STORE, UNKNOWN, WITHDRAWN, WRONG-KIND, BAD-SIGNATURE, FULL, ALREADY-HELD}
-use Rattle.octets.specs.Reading.{Out, got, refused as unread, pick}
+use Rattle.octets.specs.Reading.{pick}
 use Rattle.certificate.specs.Operations.{whole}
-use Rattle.certificate.specs.declared.certificates.Certificate.{Certificate}
 use Rattle.bitfields.specs.Field.{number}
 use Rattle.scope.specs.Issued.{issuedRows}
 use Rattle.scope.specs.declared.Scope.{Scope}
@@ -17,14 +16,9 @@ use Rattle.records.specs.Records.{scopeOf, imageOf}
 use Rattle.records.specs.declared.Record.{Record}
 use Rattle.store.specs.Slots.{storeLength, slotOf, withSlot, withdrawnAt}
 use Rattle.store.specs.Search.{find, lowestEmpty}
-use Rattle.chain.specs.Stored.{slotOr}
+use Rattle.chain.specs.Stored.{answered, slotOr}
 use Rattle.validity.specs.Valid.{validStore}
-use Rattle.admission.specs.Stored.{recordFrom}
-
--- what reading gives: 3, 4, 5, 6, or the certificate
-abbrev pub answered : Out Certificate → Answer Certificate
-answered (got c end) = gives c
-answered (unread n) = refused n
+use Rattle.entries.specs.Stored.{recordFrom}
 
 -- install wants a root, admit a ticket or an authority
 abbrev pub wanted : Bool → ℕ → Bool
@@ -80,6 +74,7 @@ abbrev pub entering : Bool → List ℕ → List ℕ → ℕ → Steps (List ℕ
 entering anchor store octets verdict =
     need BAD-CALL (eqb (length store) storeLength)
     (need BAD-STORE (validStore store)
+    -- 3, 4, 5, 6, or the certificate
     (take (answered (whole octets)) (λ c.
     need WRONG-KIND (wanted anchor (c .head .kind))
     (placing anchor store (recordFrom octets c) verdict))))

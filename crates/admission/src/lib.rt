@@ -1,5 +1,4 @@
 // Install an anchor, admit a certificate.
-mod entries; // what is stored of a certificate
 mod issuers; // the tests of its issuer
 mod operations; // the two operations
 

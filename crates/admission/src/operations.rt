@@ -6,10 +6,10 @@ ghost use Rattle.records.specs.Ranges.{InRange};
 ghost use Rattle.bitfields.specs.Field.{number};
 ghost use Rattle.admission.specs.Order.{wanted, absent, issuerRefusal, testNumber, placed, entered, installed, admitted};
 ghost use Rattle.store.specs.Search.{find};
-use crate::entries::record_from;
 use crate::issuers::issuer_number;
-use bitfields::reading::window;
 use certificate::operations::read;
+use entries::as_number;
+use entries::record_from;
 use octets::refusals::ACCEPTED;
 use octets::refusals::ALREADY_HELD;
 use octets::refusals::BAD_CALL;
@@ -23,13 +23,6 @@ use store::search::empty_slot;
 use store::search::find_id;
 use store::slots::store_record;
 use validity::valid;
-
-// An id as one number.
-fn as_number(id: [u8; 8]) -> u64
-    ensures { λ r. ⌜ r ≡ number id ⌝ }
-{
-    window(&id, 0)
-}
 
 // Whether no filled slot has an id.
 fn is_new(store: &[u8], id: u64) -> bool

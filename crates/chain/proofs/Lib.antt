@@ -6,3 +6,4 @@ pub mod Own
 pub mod Coding
 pub mod Walked
 pub mod Laws
+pub mod Answers

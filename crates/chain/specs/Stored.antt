@@ -6,6 +6,7 @@ use Prim.Native.Nat.{ℕ}
 use lib.Dec.{eqb}
 use Rattle.order.specs.Steps.{Answer, gives, refused, number, onward, done, run, needs, firstOf}
 use Rattle.octets.specs.Refusals.{UNKNOWN}
+use Rattle.octets.specs.Reading.{Out, got, refused as unread}
 use Rattle.scope.specs.Issued.{issuedRows}
 use Rattle.scope.specs.declared.Scope.{Scope}
 use Rattle.records.specs.Records.{scopeOf}
@@ -21,6 +22,11 @@ use Rattle.chain.specs.Walk.{placeRows, ownRows, walk}
 -- the certificate in slot i, without its state
 unfoldable pub subjectAt : List ℕ → ℕ → Subject
 subjectAt l i = record { id = idAt l i; issuer = issuerAt l i; scope = scopeOf (slotOf l i) }
+
+-- what was read, or the number of the refusal
+abbrev pub answered : {A : Type 0} → Out A → Answer A
+answered (got a end) = gives a
+answered (unread k) = refused k
 
 -- a slot that was looked for, or a refusal
 abbrev pub slotOr : ℕ → Option ℕ → Answer ℕ

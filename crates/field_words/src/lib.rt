@@ -3,3 +3,4 @@ mod words; // words of four octets in a buffer
 mod fields; // the fields of a certificate as words
 
 pub use fields::write_fields;
+pub use words::write_words;

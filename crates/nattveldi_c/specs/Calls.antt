@@ -11,6 +11,11 @@ use Rattle.certificate.specs.Operations.{readingOf, idOf}
 use Rattle.certificate.specs.declared.operations.Reading.{Reading}
 use Rattle.certificate.specs.declared.operations.Identified.{Identified}
 use Rattle.field_words.specs.Fields.{withFields}
+use Rattle.verification.specs.Order.{preparation, decision}
+use Rattle.verification.specs.declared.judging.Situation.{Situation}
+use Rattle.verification.specs.declared.operations.Prepared.{Prepared}
+use Rattle.verification.specs.declared.operations.Decision.{Decision}
+use Rattle.answer_words.specs.Answers.{withQuestions, withDecision}
 use Rattle.withdrawal.specs.Order.{Listing, page}
 
 abbrev pub Call : Type 0
@@ -27,6 +32,23 @@ idAnswer r buffer = pick (eqb (r .number) ACCEPTED) (ACCEPTED, withFront (r .id)
 
 unfoldable pub idCall : List ℕ → List ℕ → Call
 idCall certificate buffer = pick (ltb (length buffer) 8) (BAD-CALL, buffer) (idAnswer (idOf certificate) buffer)
+
+-- prepare and decide: the number, and the buffer and the store as they are left
+abbrev pub prepareAnswer : Prepared → List ℕ → List ℕ → ℕ × List ℕ × List ℕ
+prepareAnswer q questions store =
+    pick (eqb (q .number) ACCEPTED) (ACCEPTED, withQuestions q questions, store) (q .number, questions, store)
+
+unfoldable pub prepareCall : List ℕ → List ℕ → Situation → List ℕ → ℕ × List ℕ × List ℕ
+prepareCall store message x questions =
+    pick (ltb (length questions) 104) (BAD-CALL, questions, store) (prepareAnswer (preparation store message x) questions store)
+
+abbrev pub decideAnswer : Decision → List ℕ → List ℕ → ℕ × List ℕ × List ℕ
+decideAnswer d buffer store =
+    pick (eqb (d .number) ACCEPTED) (ACCEPTED, withDecision d buffer, store) (d .number, buffer, store)
+
+unfoldable pub decideCall : List ℕ → List ℕ → Situation → ℕ → ℕ → List ℕ → ℕ × List ℕ × List ℕ
+decideCall store message x verdict certified buffer =
+    pick (ltb (length buffer) 28) (BAD-CALL, buffer, store) (decideAnswer (decision store message x verdict certified) buffer store)
 
 -- how many slots the list names, or minus the number of the refusal; then the list and the store as they are left
 abbrev pub listAnswer : Listing → ℤ × List ℕ × List ℕ

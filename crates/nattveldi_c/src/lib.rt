@@ -4,9 +4,12 @@ ghost use mathlib.Core.List.{List};
 ghost use Prim.Native.Nat.{ℕ};
 ghost use lib.IntN.{ℤ};
 ghost use Rattle.admission.specs.Order.{installed, admitted};
+ghost use Rattle.verification.specs.Order.{situation};
 ghost use Rattle.withdrawal.specs.Order.{withdrawal};
 ghost use Rattle.page_text.specs.Page.{pageCall};
-ghost use Rattle.nattveldi_c.specs.Calls.{readCall, idCall, listCall};
+ghost use Rattle.nattveldi_c.specs.Calls.{readCall, idCall, prepareCall, decideCall, listCall};
+use answer_words::write_decision;
+use answer_words::write_questions;
 use field_words::write_fields;
 use octets::buffers::write_front;
 use octets::refusals::ACCEPTED;
@@ -58,6 +61,65 @@ pub extern "C" fn nattveldi_admit(store: &mut [u8], certificate: &[u8], verdict:
     ensures { λ r. ⌜ _≡_ {A = ℕ × List ℕ} (r, now (store .exit)) (admitted (now (store .entry)) (now (certificate .entry)) verdict) ⌝ }
 {
     nattveldi::admit(store, certificate, verdict)
+}
+
+#[no_mangle]
+pub extern "C" fn nattveldi_prepare(
+    store: &[u8],
+    message: &[u8],
+    time: u64,
+    latitude: i32,
+    longitude: i32,
+    age: u64,
+    questions: &mut [u8],
+) -> u8
+    ensures { λ r. ⌜ _≡_ {A = ℕ × List ℕ × List ℕ} (r, now (questions .exit), now (store .exit)) (prepareCall (now (store .entry)) (now (message .entry)) (situation time latitude longitude age) (now (questions .entry))) ⌝ }
+{
+    if questions.len() < 104 {
+        return BAD_CALL;
+    }
+    let prepared = nattveldi::prepare(store, message, time, latitude, longitude, age);
+    let number = prepared.number;
+    if number != ACCEPTED {
+        return number;
+    }
+    write_questions(questions, prepared);
+    ACCEPTED
+}
+
+#[no_mangle]
+pub extern "C" fn nattveldi_decide(
+    store: &[u8],
+    message: &[u8],
+    time: u64,
+    latitude: i32,
+    longitude: i32,
+    age: u64,
+    verdict: u8,
+    certified: u8,
+    decision: &mut [u8],
+) -> u8
+    ensures { λ r. ⌜ _≡_ {A = ℕ × List ℕ × List ℕ} (r, now (decision .exit), now (store .exit)) (decideCall (now (store .entry)) (now (message .entry)) (situation time latitude longitude age) verdict certified (now (decision .entry))) ⌝ }
+{
+    if decision.len() < 28 {
+        return BAD_CALL;
+    }
+    let decided = nattveldi::decide(
+        store,
+        message,
+        time,
+        latitude,
+        longitude,
+        age,
+        verdict,
+        certified,
+    );
+    let number = decided.number;
+    if number != ACCEPTED {
+        return number;
+    }
+    write_decision(decision, decided);
+    ACCEPTED
 }
 
 #[no_mangle]

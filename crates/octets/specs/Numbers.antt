@@ -9,6 +9,8 @@ use Rattle.octets.specs.declared.numbers.Octet.{Octet}
 use Rattle.octets.specs.declared.numbers.Octet.the-variants as octet
 use Rattle.octets.specs.declared.numbers.Number.{Number}
 use Rattle.octets.specs.declared.numbers.Number.the-variants as number
+use Rattle.octets.specs.declared.numbers.Long.{Long}
+use Rattle.octets.specs.declared.numbers.Long.the-variants as long
 
 -- octets, the most significant first, after the digits that a stands for
 unfoldable pub bigEndianOn : ℕ → List ℕ → ℕ
@@ -32,6 +34,10 @@ octetOf (octet.Refused n) = refused n
 abbrev pub numberOf : Number → Out ℕ
 numberOf (number.Value v next) = got v next
 numberOf (number.Refused n) = refused n
+
+abbrev pub longOf : Long → Out ℕ
+longOf (long.Value v next) = got v next
+longOf (long.Refused n) = refused n
 
 unfoldable pub octetAt : List ℕ → ℕ → Out ℕ
 octetAt s at = need CUT (ltb at (length s)) (got (getD s at 0) (at + 1))

@@ -32,6 +32,7 @@ pub fn questions(random: &mut Random) -> Vec<Set> {
     let mut set = |name, size| Set {
         name,
         inputs: (0..STORES).map(|_| question(size, random)).collect(),
+        ..Set::default()
     };
     vec![
         set("8 chains of 8, a region, 3 permissions", Size::Bounded),

@@ -28,6 +28,7 @@ pub fn sets(seed: u64) -> Vec<Set> {
     let set = |(length, count)| Set {
         name: "messages",
         inputs: (0..count).map(|_| message(&mut random, length)).collect(),
+        ..Set::default()
     };
     SETS.into_iter().map(set).collect()
 }

@@ -9,6 +9,9 @@ mod digests;
 #[allow(unsafe_code)]
 mod ffi;
 mod measure;
+mod message_set;
+mod message_store;
+mod messages;
 mod set;
 mod store_set;
 mod stores;
@@ -24,11 +27,12 @@ bench [ROUNDS]
 
 Times the proved library and the reference on the same certificates, stores and
 messages, in turn, in one run, and prints the shortest time of ROUNDS (300) as a
-table. It stops before that if their answers differ. The library is asked through
-its C functions, and its buffer is not cleared between calls; a row that says
-bindings times the safe bindings over them. Stores that a call changes are
-restored outside the timed part. SHA-256 is timed if `rt staticlib sha256_c` was
-run before this was built, validity and records if `rt staticlib store_c` was.
+table; of more than a thousand inputs each thousand is timed apart. It stops
+before that if their answers differ. The library is asked through its C
+functions, and its buffer is not cleared between calls; a row that says bindings
+times the safe bindings over them. Stores that a call changes are restored
+outside the timed part. SHA-256 is timed if `rt staticlib sha256_c` was run
+before this was built, validity and records if `rt staticlib store_c` was.
 ";
 const ROUNDS: usize = 300;
 /// The seed of the inputs: each run has the same ones.
@@ -62,14 +66,16 @@ fn bench(rounds: usize) {
     let certificates = set::certificates(SEED);
     let mut stores = stores::rows(SEED);
     stores.extend(chains::rows(SEED));
-    let messages = digests::sets(SEED);
+    stores.extend(messages::rows(SEED));
+    let hashed = digests::sets(SEED);
     let mut contests: Vec<Contest> = certificates
         .iter()
         .flat_map(certificates::contests)
         .chain(stores.iter().map(stores::Row::contest))
-        .chain(messages.iter().map(digests::contest))
+        .chain(hashed.iter().map(digests::contest))
         .collect();
     measure::run(&mut contests, rounds);
     print!("{}", table::markdown(&contests, rounds));
-    print!("\n{}{}", digests::remarks(&contests), stores::remarks());
+    print!("\n{}", messages::remarks(&contests));
+    print!("{}{}", digests::remarks(&contests), stores::remarks());
 }

@@ -6,9 +6,13 @@ use difftest::hex;
 use difftest::random::Random;
 
 /// Inputs of one sort.
+#[derive(Default)]
 pub struct Set {
     pub name: &'static str,
     pub inputs: Vec<Vec<u8>>,
+    /// The store that all inputs are asked of; empty if they are asked of none,
+    /// or each of its own.
+    pub store: Vec<u8>,
 }
 
 impl Set {
@@ -34,12 +38,14 @@ pub fn certificates(seed: u64) -> Vec<Set> {
         inputs: take(seed, count, |number, length| {
             number == 0 && (least..=most).contains(&length)
         }),
+        ..Set::default()
     };
     let refused = Set {
         name: "refused, varied",
         inputs: take(seed, MANY, |number, length| {
             number != 0 && length <= MOST_OCTETS
         }),
+        ..Set::default()
     };
     vec![
         accepted("accepted, varied", MANY, 0, MOST_OCTETS),

@@ -22,6 +22,7 @@ pub fn stores(random: &mut Random) -> Vec<Set> {
         inputs: (0..STORES)
             .map(|_| store((0..filled).map(|_| entry(random)).collect(), random))
             .collect(),
+        ..Set::default()
     };
     vec![
         set("stores, 64 large records", SLOTS, large),
@@ -38,6 +39,7 @@ pub fn slots(random: &mut Random) -> Vec<Set> {
         inputs: (0..RECORDS)
             .map(|_| entry(random).image().to_vec())
             .collect(),
+        ..Set::default()
     };
     vec![
         set("slots, varied records", Entry::random),
@@ -56,6 +58,7 @@ pub fn requests(operation: Operation, number: u8, random: &mut Random) -> Set {
         inputs: (0..STORES)
             .map(|_| request(operation, number, random))
             .collect(),
+        ..Set::default()
     }
 }
 

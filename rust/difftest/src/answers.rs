@@ -1,5 +1,7 @@
 //! Answer lines, in the format of `vectors/README.md`.
 
+mod message;
+
 use nattveldi::raw::{word_at, ACCEPTED};
 
 use crate::changes::Changed;
@@ -29,6 +31,10 @@ pub fn to_request(side: Side, request: &Request) -> String {
         Request::List(list) => listed(&list.ask(side)),
         Request::Withdraw(withdrawal) => changed(&withdrawal.ask(side)),
         Request::Page { input } => hex::text(pages::ask(side, input).text()),
+        Request::Prepare(judgement) => message::prepared(&judgement.prepare(side)),
+        Request::Decide(judgement, verdicts) => {
+            message::decided(&judgement.decide(side, *verdicts))
+        }
     }
 }
 

@@ -1,5 +1,6 @@
 //! The sides held against each other, field by field.
 
+pub mod message;
 pub mod withdrawal;
 
 use nattveldi::raw::{word_at, WORDS};

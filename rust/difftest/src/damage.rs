@@ -1,6 +1,5 @@
-//! Damage to a certificate's octets.
+//! Damage to octets: a certificate's or a message's.
 
-use crate::draft::Encoded;
 use crate::plan::{MOST_LATITUDE, MOST_LONGITUDE};
 use crate::random::Random;
 use crate::wire::{Field, Mark, Wire};
@@ -25,9 +24,8 @@ pub const ALL: [(&str, Damage); 14] = [
     ("a duration changed", change_duration),
 ];
 
-/// Does one kind of damage to what was encoded.
-pub fn apply(damage: Damage, encoded: Encoded, random: &mut Random) -> Vec<u8> {
-    let mut wire = encoded.wire;
+/// Does one kind of damage to what was written.
+pub fn apply(damage: Damage, mut wire: Wire, random: &mut Random) -> Vec<u8> {
     damage(&mut wire, random);
     wire.octets
 }

@@ -17,6 +17,8 @@ pub enum Item {
     IntX(u32, usize),
     /// What a vector holds, and by how much its length is longer.
     Vector(Vec<Item>, usize),
+    /// Octets that were written elsewhere, with their marks.
+    Written(Wire),
 }
 
 /// A type octet and what belongs to it.
@@ -75,7 +77,7 @@ impl Encoded {
     }
 }
 
-fn write_all(wire: &mut Wire, items: &[Item]) {
+pub fn write_all(wire: &mut Wire, items: &[Item]) {
     for item in items {
         write(wire, item);
     }
@@ -96,6 +98,7 @@ fn write(wire: &mut Wire, item: &Item) {
             wire.put(Field::Length, &number(inside.octets.len() as u32, *longer));
             wire.append(inside);
         }
+        Item::Written(inside) => wire.append(inside.clone()),
     }
 }
 

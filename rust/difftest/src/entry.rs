@@ -8,7 +8,7 @@ pub const HELD: u8 = 1;
 pub const WITHDRAWN: u8 = 2;
 
 /// A filled slot.
-#[derive(Clone, Debug)]
+#[derive(Clone, Debug, PartialEq, Eq)]
 pub struct Entry {
     pub id: [u8; 8],
     pub issuer: [u8; 8],

@@ -64,7 +64,7 @@ fn grow(entries: &mut Vec<Entry>, random: &mut Random) {
 }
 
 /// Any id, or one that differs from another by one bit.
-fn new_id(entries: &[Entry], random: &mut Random) -> [u8; 8] {
+pub fn new_id(entries: &[Entry], random: &mut Random) -> [u8; 8] {
     let mut id = random.array();
     if !entries.is_empty() && random.once_in(2) {
         id = entries[random.below(entries.len())].id;
@@ -103,7 +103,7 @@ fn period_inside(issuer: &Entry, random: &mut Random) -> (u32, u64) {
 }
 
 /// Everywhere below everywhere, most often; else rectangles inside the issuer's.
-fn region_inside(issuer: &[Rectangle], random: &mut Random) -> Vec<Rectangle> {
+pub fn region_inside(issuer: &[Rectangle], random: &mut Random) -> Vec<Rectangle> {
     let count = 1 + random.below(MOST_RECTANGLES);
     if !issuer.is_empty() {
         let inside = |_| smaller(random.pick(issuer), random);
@@ -128,7 +128,7 @@ fn smaller(rectangle: Rectangle, random: &mut Random) -> Rectangle {
 }
 
 /// All of the permissions or some of them, in any order, with repeats.
-fn permissions_among(issuer: &[u32], random: &mut Random) -> Vec<u32> {
+pub fn permissions_among(issuer: &[u32], random: &mut Random) -> Vec<u32> {
     if issuer.is_empty() {
         return Vec::new();
     }

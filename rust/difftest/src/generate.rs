@@ -77,7 +77,7 @@ fn damaged(random: &mut Random) -> Made {
     let (how, damage) = random.pick(&damage::ALL);
     let encoded = Draft::of(&Plan::random(random)).encode();
     Made {
-        octets: damage::apply(damage, encoded, random),
+        octets: damage::apply(damage, encoded.wire, random),
         how,
         answer: None,
     }
@@ -89,7 +89,7 @@ fn damaged_twice(random: &mut Random) -> Made {
     let (_, damage) = random.pick(&damage::ALL);
     let encoded = fault(&Plan::random(random), random);
     Made {
-        octets: damage::apply(damage, encoded, random),
+        octets: damage::apply(damage, encoded.wire, random),
         how: TWICE,
         answer: None,
     }

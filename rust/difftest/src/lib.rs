@@ -13,12 +13,15 @@
 //! - Withdrawing one: [`forest`] makes up a store of chains, [`flaws`] breaks
 //!   them, [`questions`] asks about one of its certificates; [`standing`] says
 //!   what stands, [`outcome`] is the paper's answer.
-//! - [`sides`], [`changes`], [`lists`], [`withdrawals`] and [`pages`] ask a
-//!   side, [`compare`] holds the sides against each other.
+//! - Signed messages: [`message`], with ids worked out in [`sha256`].
+//! - [`trouble`] makes sound requests bad; [`counts`] has what came up in a run.
+//! - [`sides`], [`changes`], [`lists`], [`withdrawals`], [`pages`] and
+//!   [`judgements`] ask a side, [`compare`] holds the sides against each other.
 
 pub mod answers;
 pub mod changes;
 pub mod compare;
+pub mod counts;
 pub mod damage;
 pub mod draft;
 pub mod entry;
@@ -30,7 +33,9 @@ pub mod generate;
 pub mod growth;
 pub mod hex;
 pub mod issuers;
+pub mod judgements;
 pub mod lists;
+pub mod message;
 pub mod outcome;
 pub mod pages;
 pub mod plan;
@@ -39,10 +44,12 @@ pub mod random;
 pub mod requests;
 pub mod scene;
 pub mod seed;
+pub mod sha256;
 pub mod sides;
 pub mod slot;
 pub mod spoil;
 pub mod standing;
+pub mod trouble;
 pub mod troubles;
 pub mod vectors;
 pub mod wire;

@@ -9,6 +9,7 @@ use crate::outcome::{self, Contents};
 use crate::random::Random;
 use crate::slot::{SLOTS, SLOT_LENGTH, STORE_LENGTH};
 use crate::spoil;
+use crate::trouble::{self, Trouble};
 use crate::withdrawals::Withdrawal;
 
 /// A question to ask.
@@ -20,10 +21,8 @@ pub struct Made {
     pub how: Vec<&'static str>,
 }
 
-type Trouble = fn(&mut Made, &mut Random);
-
 /// Every trouble and its name.
-pub const TROUBLES: [(&str, Trouble); 6] = [
+pub const TROUBLES: [Trouble<Made>; 6] = [
     ("another id", other_id),
     ("an id of another length", other_id_length),
     ("a list of another length", other_list_length),
@@ -37,11 +36,8 @@ pub const TROUBLES: [(&str, Trouble); 6] = [
 /// A question that is sound, most often, or has one or two troubles.
 pub fn made(random: &mut Random) -> Made {
     let mut made = sound(random);
-    for _ in 0..random.pick(&[0, 0, 0, 0, 0, 0, 1, 1, 2]) {
-        let (name, trouble) = random.pick(&TROUBLES);
-        trouble(&mut made, random);
-        made.how.push(name);
-    }
+    let count = random.pick(&[0, 0, 0, 0, 0, 0, 1, 1, 2]);
+    made.how = trouble::make(&mut made, count, &TROUBLES, random);
     made
 }
 

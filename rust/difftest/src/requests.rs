@@ -2,8 +2,11 @@
 
 use std::str::FromStr;
 
+use nattveldi::Situation;
+
 use crate::changes::{Change, Operation};
 use crate::hex;
+use crate::judgements::{Judgement, Verdicts};
 use crate::lists::List;
 use crate::withdrawals::Withdrawal;
 
@@ -16,13 +19,13 @@ pub enum Request {
     List(List),
     Withdraw(Withdrawal),
     Page { input: Vec<u8> },
+    Prepare(Judgement),
+    Decide(Judgement, Verdicts),
 }
 
 /// Why a line is not answered.
 #[derive(Debug, PartialEq, Eq)]
 pub enum Fault {
-    /// A request of the format which no side answers yet.
-    NotYet,
     /// A first word that the format does not have.
     Unknown,
     /// Too few or too many words, or one that does not parse.
@@ -31,17 +34,17 @@ pub enum Fault {
 
 type Parser = fn(&[&str]) -> Option<Request>;
 
-/// The format's requests. One without a parser is not answered yet.
-const KINDS: [(&str, Option<Parser>); 9] = [
-    ("read", Some(read)),
-    ("id", Some(id)),
-    ("install", Some(install)),
-    ("admit", Some(admit)),
-    ("list", Some(list)),
-    ("withdraw", Some(withdraw)),
-    ("prepare", None),
-    ("decide", None),
-    ("page", Some(page)),
+/// The format's requests.
+const KINDS: [(&str, Parser); 9] = [
+    ("read", read),
+    ("id", id),
+    ("install", install),
+    ("admit", admit),
+    ("list", list),
+    ("withdraw", withdraw),
+    ("prepare", prepare),
+    ("decide", decide),
+    ("page", page),
 ];
 
 /// Takes a request line apart.
@@ -52,7 +55,6 @@ pub fn parse(line: &str) -> Result<Request, Fault> {
         .iter()
         .find(|(kind, _)| *kind == first)
         .ok_or(Fault::Unknown)?;
-    let parser = parser.ok_or(Fault::NotYet)?;
     parser(&words.collect::<Vec<_>>()).ok_or(Fault::Unparsed)
 }
 
@@ -115,6 +117,49 @@ fn page(words: &[&str]) -> Option<Request> {
     Some(Request::Page {
         input: hex::octets(input)?,
     })
+}
+
+fn prepare(words: &[&str]) -> Option<Request> {
+    judgement(words).map(Request::Prepare)
+}
+
+fn decide(words: &[&str]) -> Option<Request> {
+    let [words @ .., message, certificate] = words else {
+        return None;
+    };
+    let verdicts = Verdicts {
+        message: number(message)?,
+        certificate: number(certificate)?,
+    };
+    Some(Request::Decide(judgement(words)?, verdicts))
+}
+
+/// `STORE MESSAGE NOW LATITUDE LONGITUDE AGE`
+fn judgement(words: &[&str]) -> Option<Judgement> {
+    let [store, message, now, latitude, longitude, age] = words else {
+        return None;
+    };
+    Some(Judgement {
+        store: hex::octets(store)?,
+        message: hex::octets(message)?,
+        situation: Situation {
+            now: number(now)?,
+            latitude: coordinate(latitude)?,
+            longitude: coordinate(longitude)?,
+            age: number(age)?,
+        },
+    })
+}
+
+/// A decimal number of 32 bits, with a minus sign if it is below 0.
+fn coordinate(digits: &str) -> Option<i32> {
+    let magnitude: i64 = number(digits.strip_prefix('-').unwrap_or(digits))?;
+    let value = if digits.starts_with('-') {
+        -magnitude
+    } else {
+        magnitude
+    };
+    value.try_into().ok()
 }
 
 /// A decimal number that its type holds, without a sign.
@@ -201,8 +246,61 @@ mod tests {
     }
 
     #[test]
+    fn judgements() {
+        let judgement = Judgement {
+            store: vec![0, 0],
+            message: vec![10],
+            situation: Situation {
+                now: u64::MAX,
+                latitude: i32::MIN,
+                longitude: i32::MAX,
+                age: 5,
+            },
+        };
+        let words = "(2) 0a 18446744073709551615 -2147483648 2147483647 5";
+        assert_eq!(
+            parse(&format!("prepare {words}")),
+            Ok(Request::Prepare(judgement.clone()))
+        );
+        let verdicts = Verdicts {
+            message: 255,
+            certificate: 0,
+        };
+        assert_eq!(
+            parse(&format!("decide {words} 255 0")),
+            Ok(Request::Decide(judgement, verdicts))
+        );
+    }
+
+    #[test]
+    fn unparsed_judgements() {
+        for words in [
+            "- - 0 0 0",
+            "- - 0 0 0 0 0",
+            "0 - 0 0 0 0",
+            "- 0 0 0 0 0",
+            "- - 18446744073709551616 0 0 0",
+            "- - -1 0 0 0",
+            "- - 0 2147483648 0 0",
+            "- - 0 -2147483649 0 0",
+            "- - 0 0 +1 0",
+            "- - 0 0 - 0",
+            "- - 0 0 --1 0",
+            "- - 0 0 0 -1",
+        ] {
+            let lines = [format!("prepare {words}"), format!("decide {words} 1 1")];
+            for line in lines {
+                assert_eq!(parse(&line), Err(Fault::Unparsed), "{line}");
+            }
+        }
+        for verdicts in ["", "1", "1 256", "-1 1", "1 1 1"] {
+            let line = format!("decide - - 0 0 0 0 {verdicts}");
+            assert_eq!(parse(&line), Err(Fault::Unparsed), "{line}");
+        }
+    }
+
+    #[test]
     fn what_is_none() {
-        assert_eq!(parse("decide - - 0 0 0 0 1 1"), Err(Fault::NotYet));
         for line in ["", "reed 00", "READ 00", " read 00", "= 0"] {
             assert_eq!(parse(line), Err(Fault::Unknown), "{line}");
         }

@@ -9,6 +9,7 @@ use crate::issuers;
 use crate::plan::{Plan, AUTHORITY, ROOT, TICKET};
 use crate::random::Random;
 use crate::slot::{SLOTS, SLOT_LENGTH, STORE_LENGTH};
+use crate::trouble;
 use crate::troubles;
 
 /// A request to ask about.
@@ -41,12 +42,7 @@ pub struct Scene {
 pub fn made(random: &mut Random) -> Made {
     let mut scene = Scene::sound(random);
     let count = random.pick(&[0, 1, 1, 1, 2, 2, 3]);
-    let mut how = Vec::new();
-    for _ in 0..count {
-        let (name, trouble) = random.pick(&troubles::ALL);
-        trouble(&mut scene, random);
-        how.push(name);
-    }
+    let how = trouble::make(&mut scene, count, &troubles::ALL, random);
     scene.made(how, random)
 }
 

@@ -3,7 +3,7 @@
 
 use crate::entry::{Entry, Slots, WITHDRAWN};
 use crate::expect;
-use crate::plan::ROOT;
+use crate::plan::{Rectangle, ROOT};
 use crate::slot::SLOTS;
 
 /// How many certificates a chain may have.
@@ -11,19 +11,37 @@ pub const MOST_CERTIFICATES: usize = 8;
 /// The refusal of a chain that has more.
 pub const CHAIN_TOO_LONG: u8 = 18;
 
+/// A latitude and a longitude.
+pub type Place = (i32, i32);
+
+/// When and where; without a place no position is tested.
+#[derive(Clone, Copy)]
+pub struct When {
+    pub second: u64,
+    pub place: Option<Place>,
+}
+
 /// The walk from a certificate up to a root, without the signer-kind test and
 /// without a position: how many certificates it passes, or why it stops.
 pub fn walk(slots: &Slots, certificate: &Entry, second: u32) -> Result<usize, u8> {
-    climb(slots, certificate, second.into(), 1)
+    let when = When {
+        second: second.into(),
+        place: None,
+    };
+    climb(slots, certificate, when, 1)
 }
 
-/// The walk from the certificate that is the `count`th of the chain.
-fn climb(slots: &Slots, certificate: &Entry, second: u64, count: usize) -> Result<usize, u8> {
+/// The walk from a certificate, stored or not, that is the `count`th of the
+/// chain.
+pub fn climb(slots: &Slots, certificate: &Entry, when: When, count: usize) -> Result<usize, u8> {
     if certificate.state == WITHDRAWN {
         return Err(8);
     }
-    if second < certificate.start.into() || second >= certificate.end {
+    if when.second < certificate.start.into() || when.second >= certificate.end {
         return Err(12);
+    }
+    if when.place.is_some_and(|place| !holds(certificate, place)) {
+        return Err(13);
     }
     if certificate.kind == ROOT {
         return Ok(count);
@@ -33,7 +51,15 @@ fn climb(slots: &Slots, certificate: &Entry, second: u64, count: usize) -> Resul
     }
     let issuer = expect::find(slots, certificate.issuer).ok_or(7)?;
     expect::issued(certificate, issuer)?;
-    climb(slots, issuer, second, count + 1)
+    climb(slots, issuer, when, count + 1)
+}
+
+/// "Edges belong to it"; no rectangles are everywhere.
+fn holds(certificate: &Entry, (latitude, longitude): Place) -> bool {
+    let inside = |&[north, west, south, east]: &Rectangle| {
+        (south..=north).contains(&latitude) && (west..=east).contains(&longitude)
+    };
+    certificate.rectangles.is_empty() || certificate.rectangles.iter().any(inside)
 }
 
 /// Whether each slot holds a certificate that stands.

@@ -13,11 +13,10 @@ use crate::random::Random;
 use crate::scene::Scene;
 use crate::slot::SLOTS;
 use crate::spoil;
-
-type Trouble = fn(&mut Scene, &mut Random);
+use crate::trouble::Trouble;
 
 /// Every trouble and its name.
-pub const ALL: [(&str, Trouble); 18] = [
+pub const ALL: [Trouble<Scene>; 18] = [
     ("a kind that the operation does not take", wrong_kind),
     ("the id is held", |scene, _| scene.copy = Some(HELD)),
     ("the id is withdrawn", |scene, _| {
@@ -207,7 +206,7 @@ fn damaged(plan: &Plan, change: &mut Change, random: &mut Random) {
         }
         _ => {
             let (_, damage) = random.pick(&damage::ALL);
-            change.certificate = damage::apply(damage, Draft::of(plan).encode(), random);
+            change.certificate = damage::apply(damage, Draft::of(plan).encode().wire, random);
         }
     }
 }

@@ -2,7 +2,7 @@
 
 use crate::raw::{word, word_at, FIELDS_LENGTH, MOST_PERMISSIONS, MOST_RECTANGLES};
 
-/// A run of the certificate's octets.
+/// A run of the octets that were passed, a certificate's or a message's.
 #[derive(Clone, Copy, Debug, Default, PartialEq, Eq, Hash)]
 pub struct Part {
     /// The offset of its first octet.
@@ -12,17 +12,18 @@ pub struct Part {
 }
 
 impl Part {
-    /// Takes the part's octets out of the certificate that was read.
+    /// Takes the part's octets out of the certificate or message that was
+    /// passed.
     ///
-    /// Panics if the part does not lie inside `certificate`, which then is
-    /// another one than was read.
+    /// Panics if the part does not lie inside `octets`, which then are others
+    /// than were passed.
     ///
     /// ```
     /// let part = nattveldi::Part { start: 2, length: 3 };
     /// assert_eq!(part.of(b"abcdefgh"), b"cde");
     /// ```
-    pub fn of(self, certificate: &[u8]) -> &[u8] {
-        &certificate[self.start..][..self.length]
+    pub fn of(self, octets: &[u8]) -> &[u8] {
+        &octets[self.start..][..self.length]
     }
 }
 

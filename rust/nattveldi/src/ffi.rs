@@ -1,5 +1,7 @@
 //! The functions of `include/nattveldi.h`. All unsafe code stands here.
 
+use crate::message::Situation;
+
 mod c {
     extern "C" {
         pub fn nattveldi_read(
@@ -55,6 +57,34 @@ mod c {
             text: *mut u8,
             text_length: usize,
         ) -> u32;
+
+        pub fn nattveldi_prepare(
+            store: *const u8,
+            store_length: usize,
+            message: *const u8,
+            message_length: usize,
+            now: u64,
+            latitude: i32,
+            longitude: i32,
+            age: u64,
+            questions: *mut u8,
+            questions_length: usize,
+        ) -> u8;
+
+        pub fn nattveldi_decide(
+            store: *const u8,
+            store_length: usize,
+            message: *const u8,
+            message_length: usize,
+            now: u64,
+            latitude: i32,
+            longitude: i32,
+            age: u64,
+            verdict: u8,
+            certificate_verdict: u8,
+            decision: *mut u8,
+            decision_length: usize,
+        ) -> u8;
     }
 }
 
@@ -128,4 +158,47 @@ pub fn withdraw(store: &mut [u8], id: &[u8]) -> u8 {
 
 pub fn page(input: &[u8], text: &mut [u8]) -> u32 {
     unsafe { c::nattveldi_page(input.as_ptr(), input.len(), text.as_mut_ptr(), text.len()) }
+}
+
+pub fn prepare(store: &[u8], message: &[u8], situation: &Situation, questions: &mut [u8]) -> u8 {
+    unsafe {
+        c::nattveldi_prepare(
+            store.as_ptr(),
+            store.len(),
+            message.as_ptr(),
+            message.len(),
+            situation.now,
+            situation.latitude,
+            situation.longitude,
+            situation.age,
+            questions.as_mut_ptr(),
+            questions.len(),
+        )
+    }
+}
+
+pub fn decide(
+    store: &[u8],
+    message: &[u8],
+    situation: &Situation,
+    verdict: u8,
+    certificate_verdict: u8,
+    decision: &mut [u8],
+) -> u8 {
+    unsafe {
+        c::nattveldi_decide(
+            store.as_ptr(),
+            store.len(),
+            message.as_ptr(),
+            message.len(),
+            situation.now,
+            situation.latitude,
+            situation.longitude,
+            situation.age,
+            verdict,
+            certificate_verdict,
+            decision.as_mut_ptr(),
+            decision.len(),
+        )
+    }
 }

@@ -5,10 +5,11 @@
 //! [`install`] puts a root into a store, and [`admit`] a certificate below an
 //! issuer that the store holds. [`list`] tells what the withdrawal of a
 //! certificate would take down, and [`withdraw`] withdraws it; [`page`] is the
-//! list as text. All take any octets of any length and either answer or give a
-//! [`Refusal`], which in a page is a text as well. Nothing is copied out of the
-//! certificate by reading: what the library found is named by [`Part`]s of the
-//! caller's octets.
+//! list as text. [`prepare`] tells what the chip is to be asked about a signed
+//! message, and [`decide`] accepts or refuses it. All take any octets of any
+//! length and either answer or give a [`Refusal`], which in a page is a text as
+//! well. Reading copies nothing out of a certificate or message: what the
+//! library found is named by [`Part`]s of the caller's octets.
 //!
 //! ```
 //! use nattveldi::{id, read, Kind, Refusal};
@@ -45,6 +46,7 @@
 mod certificate;
 #[allow(unsafe_code)]
 mod ffi;
+mod message;
 pub mod raw;
 mod refusal;
 mod store;
@@ -54,6 +56,7 @@ pub use certificate::{
     Certificate, Kind, Part, Period, PeriodForm, Permission, PointType, PublicKey, Rectangle,
     Signature,
 };
+pub use message::{decide, prepare, Decision, Question, Questions, Situation};
 pub use raw::STORE_LENGTH;
 pub use refusal::Refusal;
 pub use store::{admit, empty_store, install};

@@ -1,8 +1,10 @@
 //! The library's functions as the C header has them: a number for an answer
-//! and a buffer of the caller. For tests, and for callers that want the words
-//! or have a buffer already.
+//! and a buffer of the caller; but now, position and age come as a
+//! [`Situation`]. For tests, and for callers that want the words or have a
+//! buffer already.
 
 use crate::ffi;
+use crate::message::Situation;
 
 /// How many octets [`read`] writes: 90 words of 4 octets, big-endian.
 pub const FIELDS_LENGTH: usize = 360;
@@ -21,6 +23,13 @@ pub const LIST_LENGTH: usize = 64;
 
 /// How many octets [`page`] needs; no text is longer.
 pub const PAGE_LENGTH: usize = 6_144;
+
+/// How many octets [`prepare`] writes: two questions, the message's and that of
+/// the certificate it brings.
+pub const QUESTIONS_LENGTH: usize = 104;
+
+/// How many octets [`decide`] writes.
+pub const DECISION_LENGTH: usize = 28;
 
 /// The most permissions that a certificate has.
 pub const MOST_PERMISSIONS: usize = 16;
@@ -58,6 +67,25 @@ pub mod word_at {
     pub const SIGNED: usize = 85;
     pub const SIGNATURE: usize = 87;
     pub const SIGNATURE_TYPE: usize = 89;
+}
+
+/// Where the questions stand in what [`prepare`] writes, and what stands where
+/// in each of them, and in what [`decide`] writes, counted in octets. A part is
+/// two words, start and length.
+#[allow(missing_docs)] // the names are those of the C header
+pub mod octet_at {
+    pub const MESSAGE_QUESTION: usize = 0;
+    pub const CERTIFICATE_QUESTION: usize = 52;
+
+    pub const QUESTION_SIGNED: usize = 0;
+    pub const QUESTION_SIGNATURE: usize = 8;
+    pub const QUESTION_KEY_TYPE: usize = 16;
+    pub const QUESTION_KEY: usize = 20;
+
+    pub const DECISION_PAYLOAD: usize = 0;
+    pub const DECISION_SIGNER: usize = 8;
+    pub const DECISION_PERMISSION: usize = 16;
+    pub const DECISION_GENERATION_TIME: usize = 20;
 }
 
 /// Reads a certificate and writes its fields to the first 360 octets of
@@ -153,6 +181,55 @@ pub fn withdraw(store: &mut [u8], id: &[u8]) -> u8 {
 /// ```
 pub fn page(input: &[u8], text: &mut [u8]) -> u32 {
     ffi::page(input, text)
+}
+
+/// Works out what the chip is to be asked about a message, and writes it to the
+/// first 104 octets of `questions`; the octets behind them stay. The answer is 1
+/// if `questions` has fewer, else as [`decide`]'s with two verdicts of 1. In a
+/// refusal `questions` stays as it was.
+///
+/// ```
+/// use nattveldi::{empty_store, raw, Situation};
+///
+/// let here = Situation { now: 250_000_000, ..Situation::default() };
+/// let mut questions = [7; 104];
+/// assert_eq!(raw::prepare(&empty_store(), &[3], &here, &mut questions), 6);
+/// assert_eq!(raw::prepare(&empty_store(), &[3], &here, &mut questions[1..]), 1);
+/// assert_eq!(questions, [7; 104]);
+/// ```
+pub fn prepare(store: &[u8], message: &[u8], situation: &Situation, questions: &mut [u8]) -> u8 {
+    ffi::prepare(store, message, situation, questions)
+}
+
+/// Decides a message, and writes what it says to the first 28 octets of
+/// `decision`; the octets behind them stay. The answer is 1 if `decision` has
+/// fewer. In a refusal `decision` stays as it was.
+///
+/// ```
+/// use nattveldi::{empty_store, raw, Situation};
+///
+/// let here = Situation { now: 250_000_000, ..Situation::default() };
+/// let mut decision = [7; 28];
+/// assert_eq!(raw::decide(&empty_store(), &[3], &here, 1, 1, &mut decision), 6);
+/// assert_eq!(raw::decide(&empty_store(), &[3], &here, 1, 1, &mut decision[1..]), 1);
+/// assert_eq!(decision, [7; 28]);
+/// ```
+pub fn decide(
+    store: &[u8],
+    message: &[u8],
+    situation: &Situation,
+    verdict: u8,
+    certificate_verdict: u8,
+    decision: &mut [u8],
+) -> u8 {
+    ffi::decide(
+        store,
+        message,
+        situation,
+        verdict,
+        certificate_verdict,
+        decision,
+    )
 }
 
 /// The word at an index of what [`read`] wrote.

@@ -13,18 +13,19 @@ use crate::raw::ACCEPTED;
 /// let refusal = Refusal::from_number(5).unwrap();
 /// assert_eq!(refusal, Refusal::Malformed);
 /// assert_eq!(refusal.name(), "malformed");
-/// assert_eq!(refusal.to_string(), "malformed: it breaks a rule of the certificate's layout");
+/// assert_eq!(refusal.to_string(), "malformed: it breaks a rule of the layout");
 /// ```
 #[derive(Clone, Copy, Debug, PartialEq, Eq, Hash, PartialOrd, Ord)]
 #[non_exhaustive]
 #[repr(u8)]
 pub enum Refusal {
-    /// A buffer of the caller is too short, a store has not 13,568 octets, or
-    /// an id not 8.
+    /// A buffer of the caller is too short, a store has not 13,568 octets, an
+    /// id not 8, a position is out of range, or an age is over 600,000,000.
     BadCall = 1,
     /// A store against its own rules.
     BadStore = 2,
-    /// A certificate of more than 1,024 octets.
+    /// A certificate of more than 1,024 octets, or a message of more than
+    /// 2,048.
     TooLong = 3,
     /// A field or vector passes the end of what holds it.
     Cut = 4,
@@ -33,30 +34,41 @@ pub enum Refusal {
     /// A version, type or algorithm that is not read here, or more
     /// permissions or rectangles than are read.
     Unsupported = 6,
-    /// The issuer, or the id that is asked for, is not in the store.
+    /// An issuer, a message's signer, or the id that is asked for, is not in
+    /// the store.
     Unknown = 7,
-    /// The issuer, or the certificate under the id that is asked for, is
-    /// withdrawn.
+    /// An issuer, a message's signer, or the certificate under the id that is
+    /// asked for, is withdrawn.
     Withdrawn = 8,
-    /// A kind that the operation does not take, or an issuer that is a ticket.
+    /// The store has another certificate under the id of the one that a
+    /// message brings.
+    OtherCertificate = 9,
+    /// A kind that the operation does not take, an issuer that is a ticket, or
+    /// a message's signer that is none.
     WrongKind = 10,
-    /// A permission that the issuer lacks.
+    /// A permission that the issuer, or a message's signer, lacks.
     NotPermitted = 11,
-    /// A period that is not inside the issuer's.
+    /// A period that is not inside the issuer's, or a message's second outside
+    /// a period.
     OutsidePeriod = 12,
-    /// A region that is not inside the issuer's.
+    /// A region that is not inside the issuer's, or a message's position
+    /// outside a region.
     OutsidePlace = 13,
-    /// The verdict on the signature is not good.
+    /// A message from too long ago or too far ahead, or expired.
+    OutOfDate = 14,
+    /// A verdict on a signature is not good.
     Signature = 15,
     /// No slot of the store is empty.
     Full = 16,
     /// The id is in the store, held or withdrawn.
     AlreadyHeld = 17,
+    /// The eighth certificate from a message's signer upward is no root.
+    ChainTooLong = 18,
 }
 
 impl Refusal {
     /// Every refusal, in the order of the numbers.
-    pub const ALL: [Refusal; 15] = [
+    pub const ALL: [Refusal; 18] = [
         Refusal::BadCall,
         Refusal::BadStore,
         Refusal::TooLong,
@@ -65,13 +77,16 @@ impl Refusal {
         Refusal::Unsupported,
         Refusal::Unknown,
         Refusal::Withdrawn,
+        Refusal::OtherCertificate,
         Refusal::WrongKind,
         Refusal::NotPermitted,
         Refusal::OutsidePeriod,
         Refusal::OutsidePlace,
+        Refusal::OutOfDate,
         Refusal::Signature,
         Refusal::Full,
         Refusal::AlreadyHeld,
+        Refusal::ChainTooLong,
     ];
 
     /// The refusal that has this number, if there is one.
@@ -86,7 +101,7 @@ impl Refusal {
         self as u8
     }
 
-    /// The refusal's name, one or two words.
+    /// The refusal's name, a few words.
     pub fn name(self) -> &'static str {
         match self {
             Refusal::BadCall => "bad call",
@@ -97,13 +112,16 @@ impl Refusal {
             Refusal::Unsupported => "unsupported",
             Refusal::Unknown => "unknown",
             Refusal::Withdrawn => "withdrawn",
+            Refusal::OtherCertificate => "other certificate under this id",
             Refusal::WrongKind => "wrong kind",
             Refusal::NotPermitted => "not permitted",
             Refusal::OutsidePeriod => "outside period",
             Refusal::OutsidePlace => "outside place",
+            Refusal::OutOfDate => "out of date",
             Refusal::Signature => "signature",
             Refusal::Full => "full",
             Refusal::AlreadyHeld => "already held",
+            Refusal::ChainTooLong => "chain too long",
         }
     }
 
@@ -111,26 +129,43 @@ impl Refusal {
     pub fn meaning(self) -> &'static str {
         match self {
             Refusal::BadCall => {
-                "a buffer is too short for the answer, a store has not 13,568 octets, or an id not 8"
+                "a buffer is too short, a store has not 13,568 octets, an id not 8, a position is out of range, or an age is over 600,000,000"
             }
             Refusal::BadStore => "the store breaks a rule of its own",
-            Refusal::TooLong => "a certificate has at most 1,024 octets",
+            Refusal::TooLong => "a certificate has at most 1,024 octets, a message 2,048",
             Refusal::Cut => "a field or vector passes the end of what holds it",
-            Refusal::Malformed => "it breaks a rule of the certificate's layout",
+            Refusal::Malformed => "it breaks a rule of the layout",
             Refusal::Unsupported => {
                 "it has a version, type or algorithm that is not read here, or more than 16 permissions or 4 rectangles"
             }
-            Refusal::Unknown => "the issuer, or the id that is asked for, is not in the store",
-            Refusal::Withdrawn => "the issuer, or the certificate under the id, is withdrawn",
-            Refusal::WrongKind => {
-                "the operation does not take this kind, or the issuer is a ticket"
+            Refusal::Unknown => {
+                "an issuer, the signer, or the id that is asked for, is not in the store"
             }
-            Refusal::NotPermitted => "it has a permission that its issuer lacks",
-            Refusal::OutsidePeriod => "its period is not inside the issuer's",
-            Refusal::OutsidePlace => "its region is not inside the issuer's",
-            Refusal::Signature => "the verdict on its signature is not good",
+            Refusal::Withdrawn => {
+                "an issuer, the signer, or the certificate under the id, is withdrawn"
+            }
+            Refusal::OtherCertificate => {
+                "the store has another certificate under the id of the message's certificate"
+            }
+            Refusal::WrongKind => {
+                "the operation does not take this kind, an issuer is a ticket, or the signer is none"
+            }
+            Refusal::NotPermitted => "it has a permission that its issuer or signer lacks",
+            Refusal::OutsidePeriod => {
+                "a period is not inside the issuer's, or does not hold the message's second"
+            }
+            Refusal::OutsidePlace => {
+                "a region is not inside the issuer's, or does not hold the message's position"
+            }
+            Refusal::OutOfDate => {
+                "the message is from too long ago or too far ahead, or has expired"
+            }
+            Refusal::Signature => "the verdict on a signature is not good",
             Refusal::Full => "no slot of the store is empty",
             Refusal::AlreadyHeld => "its id is in the store, held or withdrawn",
+            Refusal::ChainTooLong => {
+                "the eighth certificate from the signer upward is no root"
+            }
         }
     }
 }
@@ -170,11 +205,8 @@ mod tests {
     #[test]
     fn numbers_are_the_papers() {
         let numbers: Vec<u8> = Refusal::ALL.iter().map(|r| r.number()).collect();
-        assert_eq!(
-            numbers,
-            [1, 2, 3, 4, 5, 6, 7, 8, 10, 11, 12, 13, 15, 16, 17]
-        );
-        for number in [0, 9, 14, 18, 255] {
+        assert_eq!(numbers, Vec::from_iter(1..=18));
+        for number in [0, 19, 255] {
             assert_eq!(Refusal::from_number(number), None);
         }
         assert_eq!(result(0), Ok(()));
@@ -188,8 +220,9 @@ mod tests {
     fn names_are_the_papers() {
         let names: Vec<&str> = Refusal::ALL.iter().map(|r| r.name()).collect();
         let table = "bad call, bad store, too long, cut, malformed, unsupported, unknown, \
-                     withdrawn, wrong kind, not permitted, outside period, outside place, \
-                     signature, full, already held";
+                     withdrawn, other certificate under this id, wrong kind, not permitted, \
+                     outside period, outside place, out of date, signature, full, already held, \
+                     chain too long";
         assert_eq!(names.join(", "), table);
     }
 }

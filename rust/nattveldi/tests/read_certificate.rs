@@ -85,8 +85,8 @@ fn says_why_it_refuses() {
     let cases: [(&[u8], &str); 4] = [
         (b"", "refused 4, cut: a field or vector passes the end of what holds it (octets given: 0)\n"),
         (&[3], "refused 6, unsupported: it has a version, type or algorithm that is not read here, or more than 16 permissions or 4 rectangles (octets given: 1)\n"),
-        (&[2, 0, 1], "refused 5, malformed: it breaks a rule of the certificate's layout (octets given: 3)\n"),
-        (&[2; 1_025], "refused 3, too long: a certificate has at most 1,024 octets (octets given: 1025)\n"),
+        (&[2, 0, 1], "refused 5, malformed: it breaks a rule of the layout (octets given: 3)\n"),
+        (&[2; 1_025], "refused 3, too long: a certificate has at most 1,024 octets, a message 2,048 (octets given: 1025)\n"),
     ];
     for (input, said) in cases {
         assert_eq!(run(&[], input), (Some(1), said.to_string(), String::new()));

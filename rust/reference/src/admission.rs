@@ -50,7 +50,7 @@ fn read_new(store: &[u8], octets: &[u8], kinds: &[u8]) -> Result<Record, u8> {
     if !kinds.contains(&certificate.kind) {
         return Err(WRONG_KIND);
     }
-    let id = hashed_id(octets, &certificate);
+    let id = hashed_id(octets, 0, &certificate);
     if find(store, &id).is_some() {
         return Err(ALREADY_HELD);
     }

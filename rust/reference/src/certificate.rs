@@ -6,6 +6,10 @@ use crate::constants::{
 };
 use crate::octets::{Part, Reader};
 use crate::sha256::Sha256;
+use crate::signature::{
+    read_ecdsa_signature, COMPRESSED_Y_0, COMPRESSED_Y_1, ECDSA_NISTP256, FIELD_SIZE,
+    X_COORDINATE_ONLY,
+};
 
 const MAXIMUM_LENGTH: usize = 1_024;
 const VERSION: u8 = 2;
@@ -21,13 +25,8 @@ const ITS_AID_LIST: u8 = 32;
 const ITS_AID_SSP_LIST: u8 = 33;
 const MAXIMUM_SSP: usize = 31;
 
-const ECDSA_NISTP256: u8 = 0;
 const ECIES_NISTP256: u8 = 1;
 const AES_128_CCM: u8 = 0;
-const X_COORDINATE_ONLY: u8 = 0;
-const COMPRESSED_Y_0: u8 = 2;
-const COMPRESSED_Y_1: u8 = 3;
-const FIELD_SIZE: usize = 32;
 
 const TIME_END: u8 = 0;
 const TIME_START_AND_END: u8 = 1;
@@ -89,7 +88,7 @@ pub struct Certificate {
 }
 
 impl Certificate {
-    const EMPTY: Certificate = Certificate {
+    pub(crate) const EMPTY: Certificate = Certificate {
         signer: 0,
         issuer: Part::EMPTY,
         kind: 0,
@@ -151,16 +150,16 @@ pub fn read(octets: &[u8]) -> Result<Certificate, u8> {
 /// The certificate's HashedId8, or the number of its refusal.
 pub fn id(octets: &[u8]) -> Result<[u8; 8], u8> {
     let certificate = read(octets)?;
-    Ok(hashed_id(octets, &certificate))
+    Ok(hashed_id(octets, 0, &certificate))
 }
 
-/// HashedId8 (001, clause 4.2.12) of a certificate that ends where `octets` end.
-pub(crate) fn hashed_id(octets: &[u8], certificate: &Certificate) -> [u8; 8] {
+/// HashedId8 (001, clause 4.2.12) of a certificate that was read from `octets`, from `start` on.
+pub(crate) fn hashed_id(octets: &[u8], start: usize, certificate: &Certificate) -> [u8; 8] {
     let point_type_at = certificate.signature.start + 1;
     let mut hash = Sha256::new();
-    hash.update(&octets[..point_type_at]);
+    hash.update(&octets[start..point_type_at]);
     hash.update(&[X_COORDINATE_ONLY]);
-    hash.update(&octets[point_type_at + 1..]);
+    hash.update(&octets[point_type_at + 1..certificate.signature.end()]);
     let [.., a, b, c, d, e, f, g, h] = hash.finish();
     [a, b, c, d, e, f, g, h]
 }
@@ -371,14 +370,6 @@ fn read_rectangle(reader: &mut Reader) -> Result<Rectangle, u8> {
         south,
         east,
     })
-}
-
-/// EcdsaSignature (001, clause 4.2.9), behind the algorithm; gives the point type of R.
-fn read_ecdsa_signature(reader: &mut Reader) -> Result<u8, u8> {
-    let point_type = reader.one_of(&[X_COORDINATE_ONLY, COMPRESSED_Y_0, COMPRESSED_Y_1])?;
-    reader.run(FIELD_SIZE)?;
-    reader.run(FIELD_SIZE)?;
-    Ok(point_type)
 }
 
 #[cfg(test)]

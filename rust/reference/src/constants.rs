@@ -54,3 +54,6 @@ pub const LATEST_END: u64 = 262_777_739_970;
 /// "-900,000,000 to 900,000,000 and -1,800,000,000 to 1,800,000,000"
 pub const LATITUDE_LIMIT: i32 = 900_000_000;
 pub const LONGITUDE_LIMIT: i32 = 1_800_000_000;
+
+/// "Time64 microseconds": how many make a second.
+pub const MICROSECONDS: u64 = 1_000_000;

@@ -1,4 +1,5 @@
-//! An independent second reader of road certificates, to test the proved library against.
+//! An independent second reader of road certificates and messages, to test the proved library
+//! against.
 //!
 //! Written from ETSI TS 103 097 V1.2.1 ("001" in comments) and document 01 alone. A refusal is its
 //! number in document 01 (see [`constants`]); parts are places in the caller's octets.
@@ -7,17 +8,23 @@
 
 mod admission;
 mod certificate;
+mod checks;
 pub mod constants;
+mod decision;
 mod decode;
 mod encode;
+mod headers;
 mod ids;
 mod issue;
 mod layout;
+mod message;
 mod numbers;
 mod octets;
 mod page;
+mod questions;
 mod record;
 mod sha256;
+mod signature;
 mod standing;
 mod store;
 mod unused;
@@ -27,12 +34,15 @@ mod withdrawal;
 
 pub use admission::{admit, install};
 pub use certificate::{id, read, Certificate, Permission, Rectangle};
+pub use checks::Call;
 pub use constants::{SLOTS, SLOT_LENGTH, STORE_LENGTH};
+pub use decision::{decide, Decision};
 pub use decode::decode;
 pub use encode::encode;
 pub use issue::is_issued_by;
 pub use octets::Part;
 pub use page::page;
+pub use questions::{prepare, Prepared, Question};
 pub use record::Record;
 pub use sha256::sha256;
 pub use standing::stands;

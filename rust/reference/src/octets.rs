@@ -14,6 +14,11 @@ impl Part {
         start: 0,
         length: 0,
     };
+
+    /// The offset just behind the last octet.
+    pub(crate) fn end(self) -> usize {
+        self.start + self.length
+    }
 }
 
 /// A position in a container. Reading in the order of the octets finds the earliest fault first.
@@ -96,6 +101,11 @@ impl<'a> Reader<'a> {
     #[inline]
     pub(crate) fn u32(&mut self) -> Result<u32, u8> {
         self.array().map(u32::from_be_bytes)
+    }
+
+    #[inline]
+    pub(crate) fn u64(&mut self) -> Result<u64, u8> {
+        self.array().map(u64::from_be_bytes)
     }
 
     #[inline]

@@ -69,6 +69,6 @@ impl Record {
 /// A part of at most `N` octets, "unused room is zero".
 fn padded<const N: usize>(octets: &[u8], part: Part) -> [u8; N] {
     let mut field = [0; N];
-    field[..part.length].copy_from_slice(&octets[part.start..part.start + part.length]);
+    field[..part.length].copy_from_slice(&octets[part.start..part.end()]);
     field
 }

@@ -25,6 +25,12 @@ library, or with --reference that of the independent reference.
                NUMBER N LIST
   withdraw STORE ID
                NUMBER STORE
+  prepare STORE MESSAGE NOW LATITUDE LONGITUDE AGE
+               NUMBER, and for the message and the certificate that it brings
+               SIGNED_START,LENGTH POINT_TYPE KEY SIGNATURE_START,LENGTH
+  decide STORE MESSAGE NOW LATITUDE LONGITUDE AGE VERDICT CERTIFICATE_VERDICT
+               NUMBER PAYLOAD_START PAYLOAD_LENGTH SIGNER_ID PERMISSION
+               GENERATION_TIME
   page INPUT   the text in hex
 
 A line that is unknown or does not parse is answered `error`. Blank lines, lines

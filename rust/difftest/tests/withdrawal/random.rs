@@ -20,7 +20,7 @@ fn check_list(made: &Made, tally: &mut Tally) -> Result<(), String> {
         tally.known += 1;
         against_paper(withdrawal::lists(&agreed, &known))?;
     }
-    tally.count(match (agreed.number, agreed.n) {
+    tally.counts.add(match (agreed.number, agreed.n) {
         (0, n @ (0 | 1)) => format!("list 0, n = {n}"),
         (0, 2..=8) => "list 0, n = 2 to 8".into(),
         (0, _) => "list 0, n > 8".into(),
@@ -36,7 +36,7 @@ fn check_withdrawal(made: &Made, tally: &mut Tally) -> Result<(), String> {
     if let Some(known) = made.withdrawn() {
         against_paper(compare::changes(&agreed, &known))?;
     }
-    tally.count(format!("withdraw {}", agreed.number));
+    tally.counts.add(format!("withdraw {}", agreed.number));
     Ok(())
 }
 
@@ -47,12 +47,14 @@ fn check_page(made: &Made, tally: &mut Tally) -> Result<(), String> {
         against_paper(withdrawal::texts(&agreed, &Paged::of(known.as_bytes())))?;
     }
     let text = String::from_utf8_lossy(agreed.text());
-    tally.count(match (text.starts_with("refused"), text.lines().count()) {
-        (true, _) => format!("page, {}", text.trim_end()),
-        (false, 2) => "page, 0 rows".into(),
-        (false, 3) => "page, 1 row".into(),
-        (false, _) => "page, more rows".into(),
-    });
+    tally
+        .counts
+        .add(match (text.starts_with("refused"), text.lines().count()) {
+            (true, _) => format!("page, {}", text.trim_end()),
+            (false, 2) => "page, 0 rows".into(),
+            (false, 3) => "page, 1 row".into(),
+            (false, _) => "page, more rows".into(),
+        });
     Ok(())
 }
 
@@ -81,7 +83,7 @@ fn questions() {
     }
     seed::tell(&format!(
         "random withdrawals: {cases} cases, {} with the paper's answer; {:?}",
-        tally.known, tally.outcomes
+        tally.known, tally.counts.outcomes
     ));
     tally.check(cases, &format!("DIFFTEST_SEED={seed}"));
 }

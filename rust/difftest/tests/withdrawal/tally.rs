@@ -1,7 +1,6 @@
 //! What came up in random questions.
 
-use std::collections::{BTreeMap, BTreeSet};
-
+use difftest::counts::Counts;
 use difftest::entry::{Entry, Slots};
 use difftest::plan::ROOT;
 use difftest::questions::{self, Made};
@@ -58,25 +57,17 @@ const FLOORS_ARE_OF: u64 = 20_000;
 
 #[derive(Default)]
 pub struct Tally {
-    pub outcomes: BTreeMap<String, u64>,
+    pub counts: Counts,
     /// How many questions had their answer from the paper.
     pub known: u64,
-    /// The numbers of the list where there was one trouble alone.
-    troubles: BTreeMap<&'static str, BTreeSet<u8>>,
 }
 
 impl Tally {
-    pub fn count(&mut self, outcome: String) {
-        *self.outcomes.entry(outcome).or_default() += 1;
-    }
-
     /// Counts a question by its troubles and by how its certificate stands.
     pub fn add(&mut self, made: &Made, number: u8) {
-        if let [trouble] = made.how[..] {
-            self.troubles.entry(trouble).or_default().insert(number);
-        }
+        self.counts.add_troubles(&made.how, number);
         if number == 0 && made.list.list.len() > SLOTS {
-            self.count("a list of more than 64 octets, accepted".into());
+            self.counts.add("a list of more than 64 octets, accepted");
         }
         if let Some(Ok(slots)) = &made.contents {
             if let Ok(at) = outcome::held(slots, &made.list.id) {
@@ -96,30 +87,20 @@ impl Tally {
             Err(number) => format!("does not stand, {number}"),
         };
         let stands = outcome.starts_with("stands");
-        self.count(outcome);
+        self.counts.add(outcome);
         let fails = |entry: &&Entry| standing::walk(slots, entry, second) == Err(CHAIN_TOO_LONG);
         let mut too_deep = slots.iter().flatten().filter(fails);
         if stands && too_deep.any(|entry| chain(slots, entry).any(|above| above.id == asked.id)) {
-            self.count("stands above a chain that is too long".into());
+            self.counts.add("stands above a chain that is too long");
         }
     }
 
     pub fn check(&self, cases: u64, replay: &str) {
-        for (outcome, floor) in FLOORS {
-            let seen = self.outcomes.get(outcome).copied().unwrap_or(0);
-            assert!(
-                seen * FLOORS_ARE_OF >= floor * cases,
-                "{replay}: {outcome}: {seen} times in {cases}"
-            );
-        }
+        self.counts.check(&FLOORS, FLOORS_ARE_OF, cases, replay);
         let known = self.known;
         assert!(10 * known >= 9 * cases, "{replay}: {known} answers known");
-        for (trouble, _) in questions::TROUBLES {
-            let numbers = self.troubles.get(trouble);
-            let numbers = numbers.unwrap_or_else(|| panic!("{replay}: no case of {trouble}"));
-            let refused = numbers.iter().any(|&number| number != 0);
-            assert!(refused, "{replay}: {trouble} answered {numbers:?}");
-        }
+        let names = questions::TROUBLES.iter().map(|(trouble, _)| *trouble);
+        self.counts.check_troubles(names, replay);
     }
 }
 

@@ -3,6 +3,7 @@
 #![allow(dead_code)] // each test file uses its own share
 
 pub mod chains;
+pub mod messages;
 pub mod stores;
 
 use reference::{read, Certificate};

@@ -6,10 +6,11 @@ use Rattle.certificate.specs.Operations.{readingOf}
 use Rattle.certificate.specs.declared.operations.Reading.{Reading}
 use Rattle.records.specs.Ranges.{InRange}
 use Rattle.records.specs.declared.Record.{Record}
-use Rattle.admission.specs.Readable.{accepted}
+use Rattle.entries.specs.Readable.{accepted}
 use Rattle.admission.specs.Order.{placed}
 use Rattle.geo.proofs.Bools.{of-not}
-use Rattle.admission.proofs.Facts.{facts}
+use Rattle.entries.proofs.Facts.{facts}
+use Rattle.entries.proofs.Whole.{whole-of}
 use Rattle.admission.proofs.Entered.{entered-length, entered-bad, entered-unread, entered-kind, entered-placed}
 use borrow.Author.Needs.{needs}
 use Rattle.admission.proofs.operations.enter.Statement.{statement}
@@ -50,11 +51,11 @@ returns-4 : tie.Need-returns-4
 returns-4 c = entered-kind _ _ _ _ (eq-eqb _ _ (c .before .before .before .before .before .before .before .before .if1 .left)) (sym (c .before .before .before .before .before .before .valid .ensures) ∙ of-not _ (c .before .before .before .before .before .if2 .left)) _ (was-read _ _ (c .before .before .before .before .read .ensures) (c .before .before .before .if3 .left)) (sym (c .before .takes .ensures) ∙ of-not _ (c .if4 .taken))
 
 record-from-requires : tie.Need-record-from-requires
-record-from-requires c κs = was-read _ _ (c .before .before .before .before .read .ensures) (c .before .before .before .if3 .left)
+record-from-requires c κs = whole-of _ _ (λ i. omega (arith, c .before .before .before .before .before .before .before .before .before .shared-slice-known .given i)) (was-read _ _ (c .before .before .before .before .read .ensures) (c .before .before .before .if3 .left)) .standing
 
 place-requires : tie.Need-place-requires
 place-requires c κs =
-    let f = facts _ _ (λ i. omega (arith, c .before .before .before .before .before .before .before .before .before .before .before .shared-slice-known .given i)) (was-read _ _ (c .before .before .before .before .before .before .read .ensures) (c .before .before .before .before .before .if3 .left)) in
+    let f = facts _ _ (λ i. omega (arith, c .before .before .before .before .before .before .before .before .before .before .before .shared-slice-known .given i)) (record-from-requires (c .before .before) κs) in
     (c .before .before .before .before .before .before .before .before .before .before .if1 .left, subst InRange (sym (c .before .record-from .ensures)) (f .in-range))
 
 same-length-4 : tie.Need-same-length-4

@@ -1,0 +1,13 @@
+pub mod Times
+pub mod Locations
+pub mod Digests
+pub mod Fields
+pub mod Signers
+pub mod Headers
+pub mod Bodies
+pub mod Messages
+pub mod Sizes
+pub mod Whole
+pub mod Written
+pub mod Exactness
+pub mod Example

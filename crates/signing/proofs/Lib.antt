@@ -1,0 +1,4 @@
+pub mod Numbers
+pub mod Copied
+pub mod Entitling
+pub mod Signed

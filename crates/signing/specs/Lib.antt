@@ -1,0 +1,4 @@
+pub mod Times
+pub mod Places
+pub mod Copies
+pub mod Signers

@@ -1,0 +1,57 @@
+-- Demand 2, over the definitions that the contracts of `prepare` and `decide` cite (proofs/Demand.antt).
+use mathlib.Core.Path.{_≡_}
+use mathlib.Core.Logic.{_↔_, _≢_}
+use mathlib.Core.List.{List}
+use Prim.Native.Nat.{ℕ, _+_, _≤_}
+use lib.ListN.{length}
+use Rattle.order.specs.Steps.{rows, First}
+use Rattle.bitfields.specs.Field.{number, Octets}
+use Rattle.message.specs.declared.messages.Message.{Message}
+use Rattle.records.specs.Records.{recordOf}
+use Rattle.records.specs.declared.Record.{Record}
+use Rattle.store.specs.Slots.{slotOf}
+use Rattle.store.specs.Laws.{Holds}
+use Rattle.chain.specs.Chains.{Root, top}
+use Rattle.chain.specs.Laws.{StoredIn}
+use Rattle.signing.specs.Signers.{publicKey}
+use Rattle.verification.specs.Order.{passed, question, unasked, decisionFor, deciding, decision, undecided, preparation, unprepared}
+use Rattle.verification.specs.Accepted.{Passing, Accepted}
+use Rattle.verification.specs.declared.judging.Situation.{Situation}
+use Rattle.verification.specs.declared.operations.Prepared.{Prepared}
+
+-- the questions of a message that passes: for the message the signer's key, for a certificate that it carries the issuer's, which is stored
+pub record Asked (store octets : List ℕ) (x : Situation) (q : Prepared) : Type 0 where
+  pub message : Message
+  pub signer : Record
+  pub rules : Passing store octets x message signer
+  pub signers-key : q .message ≡ question (message .signed) (publicKey (signer .key)) (message .signature .octets)
+  pub issuers-key : message .headers .signer .kind ≡ 2 → (i : ℕ) × Holds store (number (signer .issuer)) i
+      × (q .certificate ≡ question (message .headers .signer .certificate .signed) (publicKey (recordOf (slotOf store i) .key)) (message .headers .signer .certificate .signature .octets))
+  pub none-asked : message .headers .signer .kind ≢ 2 → q .certificate ≡ unasked
+
+pub record Demand2 : Type 1 where
+  -- decide answers 0 exactly if the rules hold,
+  pub accepted-exactly : (store octets : List ℕ) (x : Situation) (verdict certified : ℕ) → Octets store → Octets octets
+      → (decision store octets x verdict certified .number ≡ 0) ↔ Accepted store octets x verdict certified
+  -- and then gives payload, signer's id, permission and generation time
+  pub accepted-gives : (store octets : List ℕ) (x : Situation) (verdict certified : ℕ) → Octets store → Octets octets
+      → (h : Accepted store octets x verdict certified) → decision store octets x verdict certified ≡ decisionFor (passed (h .message) (h .signer))
+  -- it answers k exactly if each test before passes and the first that fails has the number k,
+  pub refused-first : (store octets : List ℕ) (x : Situation) (verdict certified k : ℕ) → k ≢ 0
+      → (decision store octets x verdict certified .number ≡ k) ↔ First (rows (deciding store octets x verdict certified)) k
+  -- and gives zeros and the empty part at octet 0 then
+  pub refused-zeros : (store octets : List ℕ) (x : Situation) (verdict certified : ℕ) → decision store octets x verdict certified .number ≢ 0
+      → decision store octets x verdict certified ≡ undecided (decision store octets x verdict certified .number)
+  -- prepare refuses exactly as decide with good verdicts
+  pub prepares : (store octets : List ℕ) (x : Situation) → preparation store octets x .number ≡ decision store octets x 1 1 .number
+  pub unprepared-zeros : (store octets : List ℕ) (x : Situation) → preparation store octets x .number ≢ 0
+      → preparation store octets x ≡ unprepared (preparation store octets x .number)
+  -- the key asked for the message is the signer's, for the certificate its issuer's
+  pub asked : (store octets : List ℕ) (x : Situation) → Octets store → Octets octets → preparation store octets x .number ≡ 0
+      → Asked store octets x (preparation store octets x)
+  -- the chain ends with a stored root
+  pub anchored : (store octets : List ℕ) (x : Situation) (m : Message) (r : Record) (h : Passing store octets x m r)
+      → Root (top (h .chain)) × StoredIn store (top (h .chain))
+  -- the payload of an accepted message lies in the message
+  pub payload-inside : (store octets : List ℕ) (x : Situation) (verdict certified : ℕ) → decision store octets x verdict certified .number ≡ 0
+      → decision store octets x verdict certified .payload .start + decision store octets x verdict certified .payload .length ≤ length octets

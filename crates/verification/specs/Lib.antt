@@ -1,0 +1,4 @@
+pub mod Order
+pub mod Payloads
+pub mod Accepted
+pub mod Demand

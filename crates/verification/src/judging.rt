@@ -1,0 +1,105 @@
+ghost use mathlib.Core.Path.{_≡_};
+ghost use lib.ListN.{length};
+ghost use Rattle.signing.specs.Signers.{signerOf};
+ghost use Rattle.verification.specs.Order.{judgedRefused, judgement};
+ghost use Rattle.verification.specs.Accepted.{Reads};
+use chain::subjects::Position;
+use message::messages::Message;
+use message::messages::no_message;
+use message::messages::read_message;
+use octets::refusals::ACCEPTED;
+use octets::refusals::BAD_CALL;
+use octets::refusals::BAD_STORE;
+use octets::refusals::OUT_OF_DATE;
+use octets::vectors::Next;
+use signing::places::in_range;
+use signing::signers::Identity;
+use signing::signers::SignerJudged;
+use signing::signers::carried_signer;
+use signing::signers::named_signer;
+use signing::signers::no_signer;
+use signing::times::in_time;
+use validity::valid;
+
+// When and where a message is checked: the time in microseconds, the caller's own position, the allowed age.
+pub struct Situation {
+    pub time: u64,
+    pub latitude: i32,
+    pub longitude: i32,
+    pub age: u64,
+}
+
+// A message that passes all tests but the verdicts (number 0), or the number of the refusal and zeros.
+pub struct Judged {
+    pub number: u8,
+    pub message: Message,
+    pub signer: Identity,
+}
+
+fn refused(number: u8) -> Judged
+    ensures { λ r. ⌜ r ≡ judgedRefused number ⌝ }
+{
+    Judged {
+        number,
+        message: no_message(),
+        signer: no_signer(),
+    }
+}
+
+// The signer of a message that was read from these octets.
+fn signer_of(store: &[u8], octets: &[u8], m: Message, own: Position) -> SignerJudged
+    requires { ⌜ (length (now store) ≡ 13568) × Reads (now octets) m ⌝ }
+    ensures { λ r. ⌜ r ≡ signerOf (now (store .entry)) (now (octets .entry)) m own ⌝ }
+{
+    let signer = m.headers.signer;
+    let fields = m.headers.fields;
+    if signer.kind == 2 {
+        let certificate = signer.certificate;
+        return carried_signer(store, octets, certificate, fields, own);
+    }
+    let digest = signer.digest;
+    named_signer(store, octets, digest, fields, own)
+}
+
+// The tests that prepare and decide share.
+pub fn judge(store: &[u8], octets: &[u8], x: Situation) -> Judged
+    ensures { λ r. ⌜ r ≡ judgement (now (store .entry)) (now (octets .entry)) x ⌝ }
+{
+    if store.len() != 13568 {
+        return refused(BAD_CALL);
+    }
+    if !in_range(x.latitude, x.longitude) {
+        return refused(BAD_CALL);
+    }
+    if 600_000_000 < x.age {
+        return refused(BAD_CALL);
+    }
+    if !valid(store) {
+        return refused(BAD_STORE);
+    }
+    let read = read_message(octets);
+    let outcome = read.outcome;
+    let Next::At(_) = outcome else {
+        return refused(outcome.refusal());
+    };
+    let message = read.message;
+    let fields = message.headers.fields;
+    if !in_time(fields, x.time, x.age) {
+        return refused(OUT_OF_DATE);
+    }
+    let own = Position {
+        latitude: x.latitude,
+        longitude: x.longitude,
+    };
+    let found = signer_of(store, octets, message, own);
+    let number = found.number;
+    if number != ACCEPTED {
+        return refused(number);
+    }
+    let signer = found.signer;
+    Judged {
+        number: ACCEPTED,
+        message,
+        signer,
+    }
+}

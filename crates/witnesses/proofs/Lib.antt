@@ -1,0 +1,13 @@
+pub mod Opened
+pub mod Images
+pub mod Hashes
+pub mod Reading
+pub mod Empty
+pub mod Walked
+pub mod Listed
+pub mod Kept
+pub mod Lone
+pub mod Entering
+pub mod Copies
+pub mod Full
+pub mod Reached

@@ -1,0 +1,5 @@
+//! The program `answer`.
+
+mod age;
+mod lines;
+mod program;

@@ -1,0 +1,8 @@
+//! The C header and the archive, used from C: the examples are compiled, linked
+//! and run.
+
+mod certificates;
+mod header;
+mod messages;
+mod programs;
+mod withdrawal;
