@@ -51,13 +51,12 @@ fn signer_of(store: &[u8], octets: &[u8], m: Message, own: Position) -> SignerJu
     requires { ⌜ (length (now store) ≡ 13568) × Reads (now octets) m ⌝ }
     ensures { λ r. ⌜ r ≡ signerOf (now (store .entry)) (now (octets .entry)) m own ⌝ }
 {
-    let signer = m.headers.signer;
     let fields = m.headers.fields;
-    if signer.kind == 2 {
-        let certificate = signer.certificate;
+    if m.headers.signer.kind == 2 {
+        let certificate = m.headers.signer.certificate;
         return carried_signer(store, octets, certificate, fields, own);
     }
-    let digest = signer.digest;
+    let digest = m.headers.signer.digest;
     named_signer(store, octets, digest, fields, own)
 }
 

@@ -140,21 +140,20 @@ fn decide_in(store: &[u8], message: &[u8], x: Situation, verdict: u8, certified:
     if number != ACCEPTED {
         return undecided(number);
     }
-    let m = judged.message;
-    if (m.headers.signer.kind == 2) & (certified != 1) {
+    if (judged.message.headers.signer.kind == 2) & (certified != 1) {
         return undecided(BAD_SIGNATURE);
     }
     if verdict != 1 {
         return undecided(BAD_SIGNATURE);
     }
-    let payload = m.payload;
+    let payload = judged.message.payload;
     let signer = judged.signer.id;
     Decision {
         number: ACCEPTED,
         payload,
         signer,
-        permission: m.headers.fields.aid.value,
-        generation: m.headers.fields.generation.time,
+        permission: judged.message.headers.fields.aid.value,
+        generation: judged.message.headers.fields.generation.time,
     }
 }
 

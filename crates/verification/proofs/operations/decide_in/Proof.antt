@@ -47,21 +47,21 @@ undecided-requires-2 c κs = search needs
 
 returns-2 : tie.Need-returns-2
 returns-2 c =
-    let p = on (c .before .before .before .before) in
-    c .undecided2 .ensures ∙ decided-certificate (c .before .before .before .before .before .before .before .before .args .store .now) (c .before .before .before .before .before .before .before .before .args .message .now) (c .before .before .before .before .before .before .before .before .args .x) (c .before .before .before .before .before .before .before .before .args .verdict) (c .before .before .before .before .before .before .before .before .args .certified) (p .0) (p .1) (rw (p .2) at (unverified (c .before .before .before .before .before .judge .result .message .headers .signer .kind) (c .before .before .before .before .before .before .before .before .args .certified) (c .before .if2 .taken)))
+    let p = on (c .before .before .before) in
+    c .undecided2 .ensures ∙ decided-certificate (c .before .before .before .before .before .before .before .args .store .now) (c .before .before .before .before .before .before .before .args .message .now) (c .before .before .before .before .before .before .before .args .x) (c .before .before .before .before .before .before .before .args .verdict) (c .before .before .before .before .before .before .before .args .certified) (p .0) (p .1) (rw (p .2) at (unverified (c .before .before .before .before .judge .result .message .headers .signer .kind) (c .before .before .before .before .before .before .before .args .certified) (c .before .if2 .taken)))
 
 undecided-requires-3 : tie.Need-undecided-requires-3
 undecided-requires-3 c κs = search needs
 
 returns-3 : tie.Need-returns-3
 returns-3 c =
-    let p = on (c .before .before .before .before .before) in
-    c .undecided3 .ensures ∙ decided-message (c .before .before .before .before .before .before .before .before .before .args .store .now) (c .before .before .before .before .before .before .before .before .before .args .message .now) (c .before .before .before .before .before .before .before .before .before .args .x) (c .before .before .before .before .before .before .before .before .before .args .verdict) (c .before .before .before .before .before .before .before .before .before .args .certified) (p .0) (p .1) (rw (p .2) at (verified (c .before .before .before .before .before .before .judge .result .message .headers .signer .kind) (c .before .before .before .before .before .before .before .before .before .args .certified) (c .before .before .if2 .left))) (ne-eqb _ _ (c .before .if3 .taken))
+    let p = on (c .before .before .before .before) in
+    c .undecided3 .ensures ∙ decided-message (c .before .before .before .before .before .before .before .before .args .store .now) (c .before .before .before .before .before .before .before .before .args .message .now) (c .before .before .before .before .before .before .before .before .args .x) (c .before .before .before .before .before .before .before .before .args .verdict) (c .before .before .before .before .before .before .before .before .args .certified) (p .0) (p .1) (rw (p .2) at (verified (c .before .before .before .before .before .judge .result .message .headers .signer .kind) (c .before .before .before .before .before .before .before .before .args .certified) (c .before .before .if2 .left))) (ne-eqb _ _ (c .before .if3 .taken))
 
 returns-4 : tie.Need-returns-4
 returns-4 c =
-    let p = on (c .before .before .before .before .before .before) in
-    rw (p .2) (decided-passes (c .before .before .before .before .before .before .before .before .before .before .args .store .now) (c .before .before .before .before .before .before .before .before .before .before .args .message .now) (c .before .before .before .before .before .before .before .before .before .before .args .x) (c .before .before .before .before .before .before .before .before .before .before .args .verdict) (c .before .before .before .before .before .before .before .before .before .before .args .certified) (p .0) (p .1) (rw (p .2) at (verified (c .before .before .before .before .before .before .before .judge .result .message .headers .signer .kind) (c .before .before .before .before .before .before .before .before .before .before .args .certified) (c .before .before .before .if2 .left))) (eq-eqb _ _ (c .before .before .if3 .left)))
+    let p = on (c .before .before .before .before .before) in
+    rw (p .2) (decided-passes (c .before .before .before .before .before .before .before .before .before .args .store .now) (c .before .before .before .before .before .before .before .before .before .args .message .now) (c .before .before .before .before .before .before .before .before .before .args .x) (c .before .before .before .before .before .before .before .before .before .args .verdict) (c .before .before .before .before .before .before .before .before .before .args .certified) (p .0) (p .1) (rw (p .2) at (verified (c .before .before .before .before .before .before .judge .result .message .headers .signer .kind) (c .before .before .before .before .before .before .before .before .before .args .certified) (c .before .before .before .if2 .left))) (eq-eqb _ _ (c .before .before .if3 .left)))
 
 pub decide-in-spec : {M : Type 1} → statement M
 decide-in-spec =
