@@ -2,16 +2,18 @@
 use mathlib.Core.Path.{_≡_, refl, sym, ap, subst, _∙_}
 use mathlib.Core.Logic.{_↔_, _≢_, ⊎-elim}
 use mathlib.Core.Bool.{Bool, true, false, not, _||_}
-use mathlib.Core.List.{List}
+use mathlib.Core.List.{List, []}
 use mathlib.Core.Option.{Option, none, some}
 use Prim.Native.Nat.{ℕ, zero, suc, _+_, _≤_}
 use native.Mathlib.Omega.{arith}
-use borrow.Author.Tests.{eqb-true, eq-eqb, ne-eqb}
+use borrow.Author.Tests.{eqb-true, eq-eqb, ne-eqb, le-leb}
 use lib.ListN.{length}
 use lib.Dec.{eqb}
 use Rattle.order.specs.Steps.{Answer, gives, refused, number as answerNumber, onward, done, run, rows, First, Gives, Named, Numbered}
 use Rattle.order.proofs.Steps.{gives-refused, gives-exactly, run-named, run-follow, refuses-at, follow-number}
 use Rattle.geo.proofs.Bools.{never, or-split}
+use Rattle.octets.specs.Vectors.{nowhere}
+use Rattle.octets.specs.declared.vectors.Part.{Part}
 use Rattle.bitfields.specs.Field.{number, Octets}
 use Rattle.message.specs.Messages.{wholeMessage}
 use Rattle.message.specs.declared.messages.Message.{Message}
@@ -29,6 +31,8 @@ use Rattle.chain.proofs.Answers.{read-named, read-given}
 use Rattle.chain.proofs.Laws.{laws as chain-laws}
 use Rattle.signing.specs.Signers.{carries, subjectOf, signed}
 use Rattle.verification.specs.Order.{ownPosition, Passed, passed, judging, decisionFor, verified, deciding, undecided, decisionOf, decision, certificateQuestion, issuerQuestion, unasked, questionsFor, preparing, unprepared, preparedOf, preparation}
+use Rattle.entries.specs.Stored.{partOf}
+use Rattle.verification.specs.Payloads.{payloadOf}
 use Rattle.verification.specs.Accepted.{Passing, Accepted}
 use Rattle.verification.specs.Demand.{Asked, Demand2}
 use Rattle.verification.specs.declared.judging.Situation.{Situation}
@@ -235,6 +239,14 @@ anchored store octets x m r h = (
   chain-laws .root-found store _ 7 (subjectOf r) (no-root r (h .kind)) (h .chain),
 )
 
+payload-octets : (octets : List ℕ) (p : Part) → p .start + p .length ≤ length octets → payloadOf octets p ≡ partOf octets p
+unfolding payloadOf
+payload-octets octets p h = rw (le-leb (p .start + p .length) (length octets) h)
+
+payload-empty : (octets : List ℕ) → payloadOf octets nowhere ≡ []
+unfolding payloadOf
+payload-empty octets = rw (le-leb 0 (length octets) (omega arith))
+
 pub demand2 : Demand2
 demand2 = record {
   accepted-exactly = λ store octets x verdict certified os oo. (
@@ -249,4 +261,7 @@ demand2 = record {
   asked = asked;
   anchored = anchored;
   payload-inside = payload-inside;
+  payload-octets = λ store octets x verdict certified e. payload-octets octets _ (payload-inside store octets x verdict certified e);
+  payload-empty = λ store octets x verdict certified n.
+      ap (λ (d : Decision). payloadOf octets (d .payload)) (refused-zeros store octets x verdict certified n) ∙ payload-empty octets;
 }

@@ -1,7 +1,7 @@
 -- Demand 2, over the definitions that the contracts of `prepare` and `decide` cite (proofs/Demand.antt).
 use mathlib.Core.Path.{_≡_}
 use mathlib.Core.Logic.{_↔_, _≢_}
-use mathlib.Core.List.{List}
+use mathlib.Core.List.{List, []}
 use Prim.Native.Nat.{ℕ, _+_, _≤_}
 use lib.ListN.{length}
 use Rattle.order.specs.Steps.{rows, First}
@@ -15,6 +15,8 @@ use Rattle.chain.specs.Chains.{Root, top}
 use Rattle.chain.specs.Laws.{StoredIn}
 use Rattle.signing.specs.Signers.{publicKey}
 use Rattle.verification.specs.Order.{passed, question, unasked, decisionFor, deciding, decision, undecided, preparation, unprepared}
+use Rattle.entries.specs.Stored.{partOf}
+use Rattle.verification.specs.Payloads.{payloadOf}
 use Rattle.verification.specs.Accepted.{Passing, Accepted}
 use Rattle.verification.specs.declared.judging.Situation.{Situation}
 use Rattle.verification.specs.declared.operations.Prepared.{Prepared}
@@ -55,3 +57,8 @@ pub record Demand2 : Type 1 where
   -- the payload of an accepted message lies in the message
   pub payload-inside : (store octets : List ℕ) (x : Situation) (verdict certified : ℕ) → decision store octets x verdict certified .number ≡ 0
       → decision store octets x verdict certified .payload .start + decision store octets x verdict certified .payload .length ≤ length octets
+  -- so `payload` gives its octets; in a refusal none
+  pub payload-octets : (store octets : List ℕ) (x : Situation) (verdict certified : ℕ) → decision store octets x verdict certified .number ≡ 0
+      → payloadOf octets (decision store octets x verdict certified .payload) ≡ partOf octets (decision store octets x verdict certified .payload)
+  pub payload-empty : (store octets : List ℕ) (x : Situation) (verdict certified : ℕ) → decision store octets x verdict certified .number ≢ 0
+      → payloadOf octets (decision store octets x verdict certified .payload) ≡ []
