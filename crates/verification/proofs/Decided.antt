@@ -1,6 +1,6 @@
 -- What the two operations answer, by what they share. Assumes nothing.
-use mathlib.Core.Path.{_≡_, refl, sym, ap, _∙_}
-use mathlib.Core.Bool.{Bool, true, false, not, _||_}
+use mathlib.Core.Path.{_≡_, sym, ap, _∙_}
+use mathlib.Core.Bool.{true, false, not, _||_}
 use mathlib.Core.List.{List}
 use Prim.Native.Nat.{ℕ}
 use lib.Dec.{eqb}
@@ -9,7 +9,7 @@ use borrow.Author.Tests.{eqb-true}
 use Rattle.order.specs.Steps.{Answer, gives, refused, Steps, done, need, run, onward}
 use Rattle.order.proofs.Steps.{passes, fails, run-follow, gives-exactly}
 use Rattle.signing.specs.Signers.{carries}
-use Rattle.verification.specs.Order.{Passed, judging, judgedOf, judgement, decisionFor, verified, deciding, undecided, decisionOf, decision, questionsFor, preparing, unprepared, preparedOf, preparation}
+use Rattle.verification.specs.Order.{Passed, judging, judgedOf, judgement, decisionFor, verified, deciding, undecided, decisionOf, decision, questionsFor, unprepared, preparedOf, preparation}
 use Rattle.verification.specs.declared.judging.Situation.{Situation}
 use Rattle.verification.specs.declared.judging.Judged.{Judged}
 use Rattle.verification.specs.declared.operations.Decision.{Decision}

@@ -6,7 +6,7 @@ use Prim.Native.Nat.{ℕ, zero, suc}
 use native.Mathlib.Omega.{arith}
 use lib.ListN.{length}
 use lib.Dec.{eqb, leb}
-use Rattle.order.specs.Steps.{Answer, gives, refused, Steps, done, need, take, run, onward, Named, Numbered}
+use Rattle.order.specs.Steps.{Answer, gives, refused, Steps, done, need, take, run, Named, Numbered}
 use Rattle.order.proofs.Steps.{passes, fails, takes, halts, run-named}
 use Rattle.octets.specs.Reading.{got, refused as unread}
 use Rattle.message.specs.Messages.{wholeMessage}
@@ -18,10 +18,9 @@ use Rattle.chain.specs.Stored.{answered}
 use Rattle.chain.proofs.Answers.{read-named}
 use Rattle.signing.specs.Times.{inTime}
 use Rattle.signing.specs.Places.{inRange}
-use Rattle.signing.specs.Signers.{signed, identityOf, signerRefused, signerJudged, signerOf}
+use Rattle.signing.specs.Signers.{signed, identityOf, signerJudged, signerOf}
 use Rattle.verification.specs.Order.{ownPosition, Passed, passed, judging, judgedRefused, judgedOf, judgement}
 use Rattle.verification.specs.declared.judging.Situation.{Situation}
-use Rattle.verification.specs.declared.judging.Judged.{Judged}
 use Rattle.signing.specs.declared.signers.Identity.{Identity}
 use Rattle.signing.specs.declared.signers.SignerJudged.{SignerJudged}
 use Rattle.signing.proofs.Signed.{signed-numbered}

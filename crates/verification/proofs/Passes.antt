@@ -1,12 +1,9 @@
 -- A message passes exactly if the rules hold that prepare and decide share. Assumes nothing.
-use mathlib.Core.Path.{_≡_, refl, sym, ap, subst, _∙_}
-use mathlib.Core.Bool.{true}
+use mathlib.Core.Path.{_≡_, refl, sym, ap, subst}
 use mathlib.Core.List.{List}
 use Prim.Native.Nat.{ℕ}
 use borrow.Author.Tests.{leb-true, le-leb, eqb-true, eq-eqb}
-use lib.ListN.{length}
-use lib.Dec.{leb}
-use Rattle.order.specs.Steps.{gives, run, Well, well, Gives}
+use Rattle.order.specs.Steps.{gives, run, well, Gives}
 use Rattle.order.proofs.Steps.{gives-exactly}
 use Rattle.geo.proofs.Bools.{and-split, and-join}
 use Rattle.bitfields.specs.Field.{Octets}
@@ -17,9 +14,7 @@ use Rattle.validity.proofs.Laws.{laws as valid-laws}
 use Rattle.layout.proofs.Tests.{within-test, test-within}
 use Rattle.chain.specs.Stored.{answered}
 use Rattle.chain.proofs.Answers.{read-given}
-use Rattle.signing.specs.Times.{longestAge}
-use Rattle.signing.specs.Places.{inRange}
-use Rattle.signing.specs.Signers.{signing, entitling, signed}
+use Rattle.signing.specs.Signers.{signed}
 use Rattle.verification.specs.Order.{ownPosition, Passed, passed, judging}
 use Rattle.verification.specs.Accepted.{Passing}
 use Rattle.verification.specs.declared.judging.Situation.{Situation}

@@ -6,7 +6,6 @@ use native.Mathlib.Omega.{arith}
 use lib.ListN.{length}
 use Rattle.bitfields.specs.Field.{Octets}
 use Rattle.message.specs.Inside.{SignedBy, id, certificate}
-use Rattle.message.specs.declared.signers.Signer.{Signer}
 use Rattle.message.specs.declared.messages.Message.{Message}
 use Rattle.message.proofs.Inside.{inside}
 use Rattle.entries.specs.Standing.{Standing}

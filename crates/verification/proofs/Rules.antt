@@ -8,10 +8,10 @@ use Prim.Native.Nat.{ℕ, _+_, _-_, _*_, _≤_, _<_}
 use native.Mathlib.Omega.{arith}
 use borrow.Author.Tests.{leb-true, ltb-true, le-leb, lt-ltb, eqb-true, eq-eqb, ne-eqb}
 use lib.Dec.{eqb, ltb}
-use lib.ListN.{length, drop}
-use Rattle.order.specs.Steps.{gives, done, run, Well, well, Gives}
+use lib.ListN.{drop}
+use Rattle.order.specs.Steps.{gives, run, Well, well, Gives}
 use Rattle.order.proofs.Steps.{gives-exactly}
-use Rattle.geo.proofs.Bools.{never, and-split, and-join, or-split, or-join}
+use Rattle.geo.proofs.Bools.{never, and-split, and-join, or-split}
 use Rattle.octets.specs.Reading.{pick}
 use Rattle.bitfields.specs.Field.{number, Octets}
 use Rattle.bitfields.proofs.Octets.{octets-take, octets-drop}
@@ -25,7 +25,7 @@ use Rattle.records.specs.Records.{recordOf, imageOf}
 use Rattle.records.specs.Ranges.{InRange, Sized}
 use Rattle.records.specs.declared.Record.{Record}
 use Rattle.records.proofs.Laws.{laws as record-laws}
-use Rattle.store.specs.Slots.{slotOf, GONE, stateAt, filledAt, withdrawnAt}
+use Rattle.store.specs.Slots.{slotOf, GONE, stateAt, filledAt}
 use Rattle.store.specs.Search.{find}
 use Rattle.store.specs.Laws.{Holds}
 use Rattle.store.proofs.Found.{find-none, found-to, found-from}
@@ -42,7 +42,7 @@ use Rattle.entries.specs.Stored.{partOf, recordFrom}
 use Rattle.entries.proofs.Facts.{facts}
 use Rattle.signing.specs.Times.{allowedAge, wholeSecond, unexpired, inTime}
 use Rattle.signing.specs.Places.{positionOf}
-use Rattle.signing.specs.Copies.{sameOctets, copySteps, copying}
+use Rattle.signing.specs.Copies.{copySteps, copying}
 use Rattle.signing.specs.Signers.{signing, subjectOf, entitling}
 use Rattle.verification.specs.Accepted.{Reads, Fresh, Unchanged, Signs, by-id, by-certificate}
 use Rattle.signing.proofs.Copied.{same-exactly}

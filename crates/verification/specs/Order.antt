@@ -19,7 +19,6 @@ use Rattle.records.specs.declared.Record.{Record}
 use Rattle.store.specs.Slots.{storeLength, slotOf}
 use Rattle.store.specs.Search.{find}
 use Rattle.validity.specs.Valid.{validStore}
-use Rattle.chain.specs.Walk.{walk}
 use Rattle.chain.specs.Stored.{answered}
 use Rattle.chain.specs.declared.subjects.Position.{Position}
 use Rattle.signing.specs.Times.{longestAge, inTime}

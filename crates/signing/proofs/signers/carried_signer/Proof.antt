@@ -1,6 +1,5 @@
 -- Test by test, of the record that the certificate would be stored as. Assumes nothing.
 use mathlib.Core.Path.{_≡_, sym, ap, subst, _∙_}
-use Prim.Native.Nat.{ℕ}
 use native.Mathlib.Omega.{arith}
 use Rattle.records.specs.Ranges.{InRange}
 use Rattle.records.specs.declared.Record.{Record}

@@ -14,7 +14,6 @@ use Rattle.octets.specs.Vectors.{outOf, placeOf}
 use Rattle.octets.specs.declared.vectors.Next.{Next}
 use Rattle.message.specs.Messages.{wholeMessage}
 use Rattle.validity.specs.Valid.{validStore}
-use Rattle.signing.specs.Times.{inTime}
 use Rattle.signing.specs.Places.{inRange}
 use Rattle.signing.specs.Signers.{signerOf}
 use Rattle.verification.specs.Order.{ownPosition, judgedRefused}

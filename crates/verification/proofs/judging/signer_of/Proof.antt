@@ -4,7 +4,6 @@ use native.Mathlib.Omega.{arith}
 use borrow.Author.Tests.{eq-eqb, ne-eqb}
 use Rattle.verification.proofs.Reading.{carried-standing, digest-in}
 use Rattle.signing.proofs.Signed.{signer-carried, signer-named}
-use borrow.Author.Needs.{needs}
 use Rattle.verification.proofs.judging.signer_of.Statement.{statement}
 use Rattle.verification.proofs.judging.signer_of.Tie as tie
 

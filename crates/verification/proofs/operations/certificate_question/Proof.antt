@@ -1,10 +1,9 @@
 -- By cases. Assumes nothing.
-use mathlib.Core.Path.{_≡_, sym, ap, _∙_}
-use mathlib.Core.Option.{Option}
+use mathlib.Core.Path.{sym, ap, _∙_}
 use borrow.Author.Tests.{eq-eqb, ne-eqb}
 use Rattle.store.specs.Search.{foundOf}
 use Rattle.store.proofs.Found.{find-finds}
-use Rattle.verification.specs.Order.{certificateQuestion, issuerQuestion}
+use Rattle.verification.specs.Order.{certificateQuestion}
 use borrow.Author.Needs.{needs}
 use Rattle.verification.proofs.operations.certificate_question.Statement.{statement}
 use Rattle.verification.proofs.operations.certificate_question.Tie as tie

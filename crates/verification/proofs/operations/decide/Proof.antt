@@ -1,5 +1,5 @@
 -- The store is as it was. Assumes nothing.
-use mathlib.Core.Path.{_≡_, ap}
+use mathlib.Core.Path.{ap}
 use mathlib.Core.List.{List}
 use Prim.Native.Nat.{ℕ}
 use mir.Facts.{toZ-ofZ}
