@@ -19,18 +19,25 @@ pub fn walk_at(store: &[u8], slot: usize, second: u64, place: Place, left: u8, g
     requires { ⌜ (slot < 64) × (length (now store) ≡ 13568) × (find (now store) (idAt (now store) slot) ≡ some slot) ⌝ }
     ensures { λ r. ⌜ r ≡ walkNumber (alsoAt (now (store .entry)) gone) (now (store .entry)) second place left (subjectAt (now (store .entry)) slot) ⌝ }
 {
-    let refusal = own_at(store, slot, second, place, gone);
-    if refusal != ACCEPTED {
-        return refusal;
-    }
-    if kind_at(store, slot) == 4 {
-        return ACCEPTED;
-    }
-    if left == 0 {
-        return CHAIN_TOO_LONG;
-    }
-    match step_up(store, slot) {
-        Up::Stop(number) => number,
-        Up::On(issuer) => walk_at(store, issuer, second, place, left - 1, gone),
+    let mut at = slot;
+    let mut more = left;
+    loop {
+        let refusal = own_at(store, at, second, place, gone);
+        if refusal != ACCEPTED {
+            return refusal;
+        }
+        if kind_at(store, at) == 4 {
+            return ACCEPTED;
+        }
+        if more == 0 {
+            return CHAIN_TOO_LONG;
+        }
+        match step_up(store, at) {
+            Up::Stop(number) => return number,
+            Up::On(issuer) => {
+                at = issuer;
+                more -= 1;
+            }
+        }
     }
 }
