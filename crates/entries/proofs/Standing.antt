@@ -2,6 +2,7 @@
 use Prim.Native.Nat.{ℕ, suc, _-_}
 use mathlib.Core.Path.{_≡_, ap, ap₂, sym, subst, _∙_}
 use mathlib.Core.List.{List, [], _∷_, _++_, append-assoc}
+use native.Mathlib.Omega.{arith}
 use lib.ListN.{take, drop, take-append-drop}
 use Rattle.octets.specs.Reading.{got}
 use Rattle.certificate.specs.Certificates.{certificateAt}
@@ -15,7 +16,10 @@ use Rattle.layout.specs.WellFormed.{WellFormed}
 use Rattle.layout.specs.Layout.{written}
 use Rattle.layout.specs.Fields.{fieldsAt}
 use Rattle.layout.proofs.Exactness.{exactness}
-use Rattle.entries.specs.Standing.{Standing}
+use Rattle.octets.specs.Vectors.{outOf}
+use Rattle.octets.specs.declared.vectors.Next.{Next}
+use Rattle.octets.specs.declared.vectors.Next.the-variants as next
+use Rattle.entries.specs.Standing.{Standing, StandsAt, valueOf, certificateIn}
 
 -- octets, one by one
 pub each-octet : (s : List ℕ) → Octets s → OctetsEach s
@@ -50,3 +54,18 @@ widened s e at c next o h =
     ∙ ap (λ (l : List ℕ). l ++ outer) (sym (drop-take at e s) ∙ f .stands)
     ∙ append-assoc w inner outer in
     exactness .anywhere .back s (inner ++ outer) at (f .from) (f .good) stands ∙ ap₂ got (sym (f .says)) (sym (f .after))
+
+-- the certificate that stands at its place
+pub stands-in : (s : List ℕ) (c : Certificate) → Standing s c → (at : ℕ) → c .signed .start ≡ at → certificateIn s at ≡ c
+stands-in s c e at p = ap (certificateIn s) (sym p) ∙ ap valueOf (e .reads)
+
+pub stands-at : (s : List ℕ) (at : ℕ) → StandsAt s at → Standing s (certificateIn s at)
+stands-at s at (c, e, p) = subst (Standing s) (sym (stands-in s c e at p)) e
+
+-- what the code reads there
+pub read-at : (s : List ℕ) (at : ℕ) → StandsAt s at → (p : Next) (a : Certificate) → outOf p a ≡ certificateAt s at → a ≡ certificateIn s at
+read-at s at (c, e, q) p a h = value p a (h ∙ ap (certificateAt s) (sym q) ∙ e .reads) ∙ sym (stands-in s c e at q)
+  where
+    value : (p : Next) (a : Certificate) {n : ℕ} → outOf p a ≡ got c n → a ≡ c
+    value (next.At end) a h = cc
+    value (next.Refused n) a h = absurd (let z : _≡_ {A = ℕ} 0 1 = cc in omega arith)

@@ -5,11 +5,12 @@ ghost use Prim.Native.Nat.{_+_, _≤_};
 ghost use lib.ListN.{length};
 ghost use Rattle.octets.specs.Items.{padded};
 ghost use Rattle.bitfields.specs.Field.{number};
-ghost use Rattle.entries.specs.Standing.{Standing};
+ghost use Rattle.entries.specs.Standing.{Standing, StandsAt, certificateIn};
 ghost use Rattle.entries.specs.Stored.{partOf, aidOf, idFrom, scopeFrom, recordFrom};
 use attributes::permissions::Permission;
 use bitfields::reading::window;
 use certificate::certificates::Certificate;
+use certificate::certificates::certificate_at;
 use octets::buffers::write_front;
 use octets::vectors::Part;
 use records::Key;
@@ -127,6 +128,16 @@ pub fn record_from(s: &[u8], c: Certificate) -> Record
             octets: key,
         },
     }
+}
+
+// The record of the certificate that stands at an octet of s.
+pub fn record_at(s: &[u8], at: usize) -> Record
+    requires { ⌜ StandsAt (now s) at ⌝ }
+    ensures { λ r. ⌜ r ≡ recordFrom (now (s .entry)) (certificateIn (now (s .entry)) at) ⌝ }
+{
+    let read = certificate_at(s, at);
+    let certificate = read.certificate;
+    record_from(s, certificate)
 }
 
 // An id as one number.

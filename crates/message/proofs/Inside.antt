@@ -26,9 +26,9 @@ use Rattle.message.specs.Vectors.{headersIn, headersAt, completeHeaders}
 use Rattle.message.specs.Bodies.{payloadAt, trailerIn, trailerAt}
 use Rattle.message.specs.Messages.{wholeMessage}
 use Rattle.message.specs.Inside.{SignedBy, id, certificate, Inside}
-use Rattle.message.specs.declared.signers.Signer.{Signer}
-use Rattle.message.specs.declared.vectors.Headers.{Headers}
-use Rattle.message.specs.declared.messages.Message.{Message}
+use Rattle.message.specs.Signers.{Signer}
+use Rattle.message.specs.Vectors.{Headers}
+use Rattle.message.specs.Messages.{Message}
 
 -- ---- fields
 same : {A : Type 0} {a b : A} {m n : ℕ} → got a m ≡ got b n → (a ≡ b) × (m ≡ n)

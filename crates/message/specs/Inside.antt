@@ -7,8 +7,8 @@ use lib.ListN.{length, take}
 use Rattle.octets.specs.Reading.{got}
 use Rattle.octets.specs.Vectors.{part, nowhere}
 use Rattle.certificate.specs.Certificates.{certificateAt}
-use Rattle.message.specs.declared.signers.Signer.{Signer}
-use Rattle.message.specs.declared.messages.Message.{Message}
+use Rattle.message.specs.Signers.{Signer}
+use Rattle.message.specs.Messages.{Message}
 
 -- an id, of 8 octets of the message
 pub record ById (s : List ℕ) (signer : Signer) : Type 0 where

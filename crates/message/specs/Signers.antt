@@ -6,14 +6,17 @@ use lib.Dec.{ltb, eqb}
 use Rattle.octets.specs.Refusals.{UNSUPPORTED}
 use Rattle.octets.specs.Reading.{Out, got, bind, need, pick}
 use Rattle.octets.specs.Numbers.{octetAt}
-use Rattle.octets.specs.Vectors.{runAt, outOf, part, nowhere}
+use Rattle.octets.specs.Vectors.{runAt, part, nowhere}
 use Rattle.certificate.specs.Certificates.{certificateAt, blank}
 use Rattle.headers.specs.Fields.{strayOf}
-use Rattle.message.specs.declared.signers.Signer.{Signer}
-use Rattle.message.specs.declared.signers.SignerRead.{SignerRead}
+use Rattle.octets.specs.declared.vectors.Part.{Part}
+use Rattle.certificate.specs.declared.certificates.Certificate.{Certificate}
 
-abbrev pub signerOf : SignerRead → Out Signer
-signerOf r = outOf (r .outcome) (r .signer)
+-- who signed: kind 1 the certificate with the id whose 8 octets are named, 2 the certificate that stands here, 0 nobody is named
+pub record Signer : Type 0 where
+  pub kind : ℕ
+  pub digest : Part
+  pub certificate : Certificate
 
 -- no signer
 unfoldable pub unsigned : Signer

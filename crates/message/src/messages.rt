@@ -1,14 +1,21 @@
 ghost use mathlib.Core.Path.{_≡_};
-ghost use Rattle.octets.specs.Reading.{refused};
-ghost use Rattle.message.specs.Messages.{blank, messageOf, wholeMessage};
+ghost use Rattle.octets.specs.Reading.{refusalOf};
+ghost use Rattle.message.specs.Messages.{wholeMessage};
+ghost use Rattle.message.specs.Parts.{kept, messageOf, messageParts, noParts};
 use crate::bodies::payload_at;
 use crate::bodies::trailer_at;
-use crate::vectors::Headers;
+use crate::signers::SignerParts;
+use crate::vectors::HeaderParts;
+use crate::vectors::HeadersRead;
 use crate::vectors::complete;
 use crate::vectors::headers_at;
-use crate::vectors::no_headers;
 use certificate::signatures::Signature;
 use certificate::signatures::SignatureRead;
+use headers::aids::Aid;
+use headers::fields::Fields;
+use headers::locations::Location;
+use headers::times::Expiration;
+use headers::times::Generation;
 use octets::elements::exactly_at;
 use octets::refusals::MALFORMED;
 use octets::refusals::TOO_LONG;
@@ -16,30 +23,71 @@ use octets::vectors::Next;
 use octets::vectors::Part;
 use octets::vectors::Span;
 
-// Everything that a message says. Parts are octets of what the caller passed.
-pub struct Message {
-    pub headers: Headers,
+// What a message says; of a certificate that it carries, where its parts stand. Parts are octets of what the caller passed.
+pub struct MessageParts {
+    pub headers: HeaderParts,
     pub payload: Part,
     pub signed: Part,
     pub signature: Signature,
 }
 
 // The message that was read, with the position after it, or the number of the refusal.
-pub struct MessageRead {
-    pub outcome: Next,
-    pub message: Message,
+pub enum MessageRead {
+    Value { message: MessageParts, next: usize },
+    Refused(u8),
 }
 
-// The message of a refusal: all values are zero.
-pub fn no_message() -> Message
-    ensures { λ r. ⌜ r ≡ blank ⌝ }
+impl MessageRead {
+    // The number of a refusal; 0 of a value.
+    pub fn refusal(self) -> u8
+        ensures { λ n. ⌜ n ≡ refusalOf (messageOf self) ⌝ }
+    {
+        match self {
+            MessageRead::Value {
+                message: _,
+                next: _,
+            } => 0,
+            MessageRead::Refused(n) => n,
+        }
+    }
+}
+
+// The parts of a refusal: all values are zero.
+pub fn no_parts() -> MessageParts
+    ensures { λ r. ⌜ r ≡ noParts ⌝ }
 {
     let nowhere = Part {
         start: 0,
         length: 0,
     };
-    Message {
-        headers: no_headers(),
+    MessageParts {
+        headers: HeaderParts {
+            signer: SignerParts {
+                kind: 0,
+                digest: nowhere,
+                signed: nowhere,
+                signature: nowhere,
+            },
+            fields: Fields {
+                generation: Generation {
+                    given: false,
+                    time: 0,
+                },
+                expiration: Expiration {
+                    given: false,
+                    second: 0,
+                },
+                location: Location {
+                    given: false,
+                    latitude: 0,
+                    longitude: 0,
+                },
+                aid: Aid {
+                    given: false,
+                    value: 0,
+                },
+            },
+        },
         payload: nowhere,
         signed: nowhere,
         signature: Signature {
@@ -49,46 +97,34 @@ pub fn no_message() -> Message
     }
 }
 
-fn message_refused(n: u8) -> MessageRead
-    ensures { λ r. ⌜ messageOf r ≡ refused n ⌝ }
-{
-    MessageRead {
-        outcome: Next::Refused(n),
-        message: no_message(),
-    }
-}
-
 // The message that is the whole input, of at most 2,048 octets.
 pub fn read_message(s: &[u8]) -> MessageRead
-    ensures { λ r. ⌜ messageOf r ≡ wholeMessage (now (s .entry)) ⌝ }
+    ensures { λ r. ⌜ messageOf r ≡ kept messageParts (wholeMessage (now (s .entry))) ⌝ }
 {
     if 2048 < s.len() {
-        return message_refused(TOO_LONG);
+        return MessageRead::Refused(TOO_LONG);
     }
     let version = exactly_at(s, 0, 2);
     let Next::At(a) = version else {
-        return message_refused(version.refusal());
+        return MessageRead::Refused(version.refusal());
     };
     let first = headers_at(s, a);
-    let outcome = first.outcome;
-    let Next::At(b) = outcome else {
-        return message_refused(outcome.refusal());
+    let HeadersRead::Value { headers, next: b } = first else {
+        return MessageRead::Refused(first.refusal());
     };
-    let headers = first.headers;
     let second = payload_at(s, b, complete(headers));
     let Span::Within { start, end: c } = second else {
-        return message_refused(second.refusal());
+        return MessageRead::Refused(second.refusal());
     };
     let third = trailer_at(s, c);
     let SignatureRead::Value { signature, next } = third else {
-        return message_refused(third.refusal());
+        return MessageRead::Refused(third.refusal());
     };
     if next < s.len() {
-        return message_refused(MALFORMED);
+        return MessageRead::Refused(MALFORMED);
     }
-    MessageRead {
-        outcome: Next::At(next),
-        message: Message {
+    MessageRead::Value {
+        message: MessageParts {
             headers,
             payload: Part {
                 start,
@@ -100,5 +136,6 @@ pub fn read_message(s: &[u8]) -> MessageRead
             },
             signature,
         },
+        next,
     }
 }

@@ -1,9 +1,8 @@
 ghost use mathlib.Core.Path.{_≡_};
-ghost use Rattle.octets.specs.Reading.{refused};
-ghost use Rattle.message.specs.Signers.{unsigned, signerOf, namedAt, carriedAt, signerInfoAt, signerAt};
-use certificate::certificates::Certificate;
+ghost use Rattle.octets.specs.Reading.{refusalOf};
+ghost use Rattle.message.specs.Signers.{namedAt, carriedAt, signerInfoAt, signerAt};
+ghost use Rattle.message.specs.Parts.{kept, signerOf, signerParts};
 use certificate::certificates::certificate_at;
-use certificate::certificates::no_certificate;
 use headers::fields::stray;
 use octets::numbers::Octet;
 use octets::numbers::octet_at;
@@ -13,78 +12,77 @@ use octets::vectors::Part;
 use octets::vectors::Span;
 use octets::vectors::run_at;
 
-// Who signed: 1 the certificate with the id whose 8 octets are named, 2 the certificate that stands here; 0 nobody is named.
-pub struct Signer {
+// Who signed: 1 the certificate with the id whose 8 octets are named, 2 the certificate that stands here, of which the signed range and
+// the signature are given; 0 nobody is named.
+pub struct SignerParts {
     pub kind: u8,
     pub digest: Part,
-    pub certificate: Certificate,
+    pub signed: Part,
+    pub signature: Part,
 }
 
 // The signer that was read, with the position after it, or the number of the refusal.
-pub struct SignerRead {
-    pub outcome: Next,
-    pub signer: Signer,
+pub enum SignerRead {
+    Value { signer: SignerParts, next: usize },
+    Refused(u8),
 }
 
-pub fn no_signer() -> Signer
-    ensures { λ r. ⌜ r ≡ unsigned ⌝ }
-{
-    Signer {
-        kind: 0,
-        digest: Part {
-            start: 0,
-            length: 0,
-        },
-        certificate: no_certificate(),
-    }
-}
-
-fn signer_refused(n: u8) -> SignerRead
-    ensures { λ r. ⌜ signerOf r ≡ refused n ⌝ }
-{
-    SignerRead {
-        outcome: Next::Refused(n),
-        signer: no_signer(),
+impl SignerRead {
+    // The number of a refusal; 0 of a value.
+    pub fn refusal(self) -> u8
+        ensures { λ n. ⌜ n ≡ refusalOf (signerOf self) ⌝ }
+    {
+        match self {
+            SignerRead::Value { signer: _, next: _ } => 0,
+            SignerRead::Refused(n) => n,
+        }
     }
 }
 
 // The 8 octets of an id.
 fn named_at(s: &[u8], at: usize) -> SignerRead
-    ensures { λ r. ⌜ signerOf r ≡ namedAt (now (s .entry)) at ⌝ }
+    ensures { λ r. ⌜ signerOf r ≡ kept signerParts (namedAt (now (s .entry)) at) ⌝ }
 {
+    let nowhere = Part {
+        start: 0,
+        length: 0,
+    };
     match run_at(s, at, 8) {
-        Span::Refused(n) => signer_refused(n),
-        Span::Within { start, end } => SignerRead {
-            outcome: Next::At(end),
-            signer: Signer {
+        Span::Refused(n) => SignerRead::Refused(n),
+        Span::Within { start, end } => SignerRead::Value {
+            signer: SignerParts {
                 kind: 1,
                 digest: Part { start, length: 8 },
-                certificate: no_certificate(),
+                signed: nowhere,
+                signature: nowhere,
             },
+            next: end,
         },
     }
 }
 
 // A certificate, which ends with its signature; its container is the header vector.
 fn carried_at(s: &[u8], at: usize) -> SignerRead
-    ensures { λ r. ⌜ signerOf r ≡ carriedAt (now (s .entry)) at ⌝ }
+    ensures { λ r. ⌜ signerOf r ≡ kept signerParts (carriedAt (now (s .entry)) at) ⌝ }
 {
     let read = certificate_at(s, at);
     let outcome = read.outcome;
     match outcome {
-        Next::Refused(n) => signer_refused(n),
+        Next::Refused(n) => SignerRead::Refused(n),
         Next::At(end) => {
-            let certificate = read.certificate;
-            SignerRead {
-                outcome: Next::At(end),
-                signer: Signer {
+            let signed = read.certificate.signed;
+            let signature = read.certificate.signature.octets;
+            SignerRead::Value {
+                signer: SignerParts {
                     kind: 2,
                     digest: Part {
                         start: 0,
                         length: 0,
                     },
-                    certificate,
+                    signed,
+                    signature,
                 },
+                next: end,
             }
         }
     }
@@ -92,10 +90,10 @@ fn carried_at(s: &[u8], at: usize) -> SignerRead
 
 // What stands behind the signer's type octet.
 fn signer_info_at(s: &[u8], at: usize) -> SignerRead
-    ensures { λ r. ⌜ signerOf r ≡ signerInfoAt (now (s .entry)) at ⌝ }
+    ensures { λ r. ⌜ signerOf r ≡ kept signerParts (signerInfoAt (now (s .entry)) at) ⌝ }
 {
     match octet_at(s, at) {
-        Octet::Refused(n) => signer_refused(n),
+        Octet::Refused(n) => SignerRead::Refused(n),
         Octet::Value { value, next } => {
             if value == 1 {
                 return named_at(s, next);
@@ -103,24 +101,33 @@ fn signer_info_at(s: &[u8], at: usize) -> SignerRead
             if value == 2 {
                 return carried_at(s, next);
             }
-            signer_refused(UNSUPPORTED)
+            SignerRead::Refused(UNSUPPORTED)
         }
     }
 }
 
 // The first header, which must be the signer; none where the vector is empty.
 pub fn signer_at(s: &[u8], at: usize) -> SignerRead
-    ensures { λ r. ⌜ signerOf r ≡ signerAt (now (s .entry)) at ⌝ }
+    ensures { λ r. ⌜ signerOf r ≡ kept signerParts (signerAt (now (s .entry)) at) ⌝ }
 {
     if s.len() <= at {
-        return SignerRead {
-            outcome: Next::At(at),
-            signer: no_signer(),
+        let nowhere = Part {
+            start: 0,
+            length: 0,
+        };
+        return SignerRead::Value {
+            signer: SignerParts {
+                kind: 0,
+                digest: nowhere,
+                signed: nowhere,
+                signature: nowhere,
+            },
+            next: at,
         };
     }
     let t = s[at];
     if t != 128 {
-        return signer_refused(stray(t));
+        return SignerRead::Refused(stray(t));
     }
     signer_info_at(s, at + 1)
 }

@@ -1,114 +1,77 @@
 ghost use mathlib.Core.Path.{_≡_};
-ghost use Rattle.octets.specs.Reading.{refused};
-ghost use Rattle.message.specs.Vectors.{unheaded, headersOf, headersIn, headersAt, completeHeaders};
-use crate::signers::Signer;
-use crate::signers::no_signer;
+ghost use Rattle.octets.specs.Reading.{refusalOf};
+ghost use Rattle.message.specs.Vectors.{headersIn, headersAt};
+ghost use Rattle.message.specs.Parts.{kept, headersOf, headerParts, completeParts};
+use crate::signers::SignerParts;
+use crate::signers::SignerRead;
 use crate::signers::signer_at;
-use headers::aids::Aid;
 use headers::fields::Fields;
 use headers::fields::FieldsRead;
 use headers::fields::fields_in;
-use headers::locations::Location;
-use headers::times::Expiration;
-use headers::times::Generation;
-use octets::vectors::Next;
 use octets::vectors::Span;
 use octets::vectors::span_at;
 
-// What the headers say.
-pub struct Headers {
-    pub signer: Signer,
+// What the headers say; of the signer, where its parts stand.
+pub struct HeaderParts {
+    pub signer: SignerParts,
     pub fields: Fields,
 }
 
 // The headers that were read, with the position after them, or the number of the refusal.
-pub struct HeadersRead {
-    pub outcome: Next,
-    pub headers: Headers,
+pub enum HeadersRead {
+    Value { headers: HeaderParts, next: usize },
+    Refused(u8),
 }
 
-pub fn no_headers() -> Headers
-    ensures { λ r. ⌜ r ≡ unheaded ⌝ }
-{
-    Headers {
-        signer: no_signer(),
-        fields: Fields {
-            generation: Generation {
-                given: false,
-                time: 0,
-            },
-            expiration: Expiration {
-                given: false,
-                second: 0,
-            },
-            location: Location {
-                given: false,
-                latitude: 0,
-                longitude: 0,
-            },
-            aid: Aid {
-                given: false,
-                value: 0,
-            },
-        },
-    }
-}
-
-fn headers_refused(n: u8) -> HeadersRead
-    ensures { λ r. ⌜ headersOf r ≡ refused n ⌝ }
-{
-    HeadersRead {
-        outcome: Next::Refused(n),
-        headers: no_headers(),
+impl HeadersRead {
+    // The number of a refusal; 0 of a value.
+    pub fn refusal(self) -> u8
+        ensures { λ n. ⌜ n ≡ refusalOf (headersOf self) ⌝ }
+    {
+        match self {
+            HeadersRead::Value {
+                headers: _,
+                next: _,
+            } => 0,
+            HeadersRead::Refused(n) => n,
+        }
     }
 }
 
 // The headers from a position to the end: the signer, then the others.
 fn headers_in(s: &[u8], at: usize) -> HeadersRead
-    ensures { λ r. ⌜ headersOf r ≡ headersIn (now (s .entry)) at ⌝ }
+    ensures { λ r. ⌜ headersOf r ≡ kept headerParts (headersIn (now (s .entry)) at) ⌝ }
 {
     let first = signer_at(s, at);
-    let outcome = first.outcome;
-    let Next::At(a) = outcome else {
-        return headers_refused(outcome.refusal());
+    let SignerRead::Value { signer, next: a } = first else {
+        return HeadersRead::Refused(first.refusal());
     };
-    let signer = first.signer;
     let second = fields_in(s, a);
     let FieldsRead::Value { fields, next } = second else {
-        return headers_refused(second.refusal());
+        return HeadersRead::Refused(second.refusal());
     };
-    HeadersRead {
-        outcome: Next::At(next),
-        headers: Headers { signer, fields },
+    HeadersRead::Value {
+        headers: HeaderParts { signer, fields },
+        next,
     }
 }
 
 // The header vector.
 pub fn headers_at(s: &[u8], at: usize) -> HeadersRead
-    ensures { λ r. ⌜ headersOf r ≡ headersAt (now (s .entry)) at ⌝ }
+    ensures { λ r. ⌜ headersOf r ≡ kept headerParts (headersAt (now (s .entry)) at) ⌝ }
 {
     match span_at(s, at) {
-        Span::Refused(n) => headers_refused(n),
-        Span::Within { start, end } => {
-            let read = headers_in(&s[..end], start);
-            let outcome = read.outcome;
-            match outcome {
-                Next::Refused(n) => headers_refused(n),
-                Next::At(_) => {
-                    let headers = read.headers;
-                    HeadersRead {
-                        outcome: Next::At(end),
-                        headers,
-                    }
-                }
-            }
-        }
+        Span::Refused(n) => HeadersRead::Refused(n),
+        Span::Within { start, end } => match headers_in(&s[..end], start) {
+            HeadersRead::Refused(n) => HeadersRead::Refused(n),
+            HeadersRead::Value { headers, next: _ } => HeadersRead::Value { headers, next: end },
+        },
     }
 }
 
 // The signer, the generation time and its_aid are required.
-pub fn complete(headers: Headers) -> bool
-    ensures { λ r. ⌜ r ≡ completeHeaders headers ⌝ }
+pub fn complete(headers: HeaderParts) -> bool
+    ensures { λ r. ⌜ r ≡ completeParts headers ⌝ }
 {
     (headers.signer.kind != 0) & headers.fields.generation.given & headers.fields.aid.given
 }

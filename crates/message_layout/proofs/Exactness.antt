@@ -9,8 +9,7 @@ use lib.ListN.{length, drop, length-append}
 use lib.Seq.{drop-append-seam}
 use Rattle.octets.specs.Reading.{got}
 use Rattle.octets.proofs.Laws.{pass, need-got}
-use Rattle.message.specs.Messages.{wholeMessage}
-use Rattle.message.specs.declared.messages.Message.{Message}
+use Rattle.message.specs.Messages.{Message, wholeMessage}
 use Rattle.certificate.specs.declared.certificates.Certificate.{Certificate}
 use Rattle.writing.specs.Written.{Octets, intxOctets, vectorOctets}
 use Rattle.layout.specs.Contents as certificate

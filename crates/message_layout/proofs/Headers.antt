@@ -10,7 +10,7 @@ use Rattle.headers.specs.Times.{undated}
 use Rattle.headers.specs.Aids.{unnamed}
 use Rattle.message.specs.Signers.{unsigned}
 use Rattle.message.specs.Vectors.{headersIn, headersAt, completeHeaders}
-use Rattle.message.specs.declared.vectors.Headers.{Headers}
+use Rattle.message.specs.Vectors.{Headers}
 use Rattle.writing.specs.Written.{intxOctets, vectorOctets}
 use Rattle.writing.specs.Elements.{IfThere, elementOctets, elementValue, NothingFollows}
 use Rattle.writing.specs.Exactly.{Exact, ExactIn}

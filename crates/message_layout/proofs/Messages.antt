@@ -11,7 +11,7 @@ use Rattle.octets.specs.Vectors.{part}
 use Rattle.octets.specs.Elements.{exactlyAt}
 use Rattle.message.specs.Vectors.{headersAt, completeHeaders}
 use Rattle.message.specs.Bodies.{payloadAt, trailerAt}
-use Rattle.message.specs.declared.messages.Message.{Message}
+use Rattle.message.specs.Messages.{Message}
 use Rattle.writing.specs.Written.{Octets, intxOctets, vectorOctets}
 use Rattle.writing.specs.Exactly.{ExactIn}
 use Rattle.writing.proofs.Numbers.{exactly-exact}

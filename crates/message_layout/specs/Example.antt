@@ -8,8 +8,7 @@ use lib.IntN.{pos, negℤ}
 use Rattle.octets.specs.Reading.{got}
 use Rattle.octets.specs.Vectors.{part}
 use Rattle.certificate.specs.Certificates.{blank}
-use Rattle.message.specs.Messages.{wholeMessage}
-use Rattle.message.specs.declared.messages.Message.{Message}
+use Rattle.message.specs.Messages.{Message, wholeMessage}
 use Rattle.message_layout.specs.Contents.{named, Contents}
 use Rattle.message_layout.specs.WellFormed.{WellFormed}
 use Rattle.message_layout.specs.Layout.{written}

@@ -12,8 +12,8 @@ use Rattle.headers.specs.declared.times.Expiration.{Expiration}
 use Rattle.headers.specs.declared.locations.Location.{Location as LocationRead}
 use Rattle.headers.specs.declared.aids.Aid.{Aid}
 use Rattle.headers.specs.declared.fields.Fields.{Fields}
-use Rattle.message.specs.declared.signers.Signer.{Signer as SignerRead}
-use Rattle.message.specs.declared.messages.Message.{Message}
+use Rattle.message.specs.Signers.{Signer as SignerRead}
+use Rattle.message.specs.Messages.{Message}
 use Rattle.writing.specs.Written.{intxOctets, vectorOctets}
 use Rattle.layout.specs.Fields as certificate
 use Rattle.layout.specs.Fields.{signatureFields}

@@ -3,7 +3,7 @@ ghost use Prim.Native.Nat.{_+_, _≤_, _<_};
 ghost use lib.ListN.{length};
 ghost use Rattle.records.specs.Records.{recordOf};
 ghost use Rattle.store.specs.Slots.{slotOf};
-ghost use Rattle.entries.specs.Standing.{Standing};
+ghost use Rattle.entries.specs.Standing.{StandsAt, certificateIn};
 ghost use Rattle.signing.specs.Signers.{publicKey, identityOf, nobody, signerRefused, namedSigner, carriedSigner};
 use crate::copies::copy_number;
 use crate::entitled::entitled;
@@ -12,10 +12,9 @@ use bitfields::arrays::get_octets8;
 use bitfields::arrays::get_octets32;
 use bitfields::reading::get8;
 use bitfields::reading::window;
-use certificate::certificates::Certificate;
 use chain::subjects::Position;
 use entries::as_number;
-use entries::record_from;
+use entries::record_at;
 use headers::fields::Fields;
 use octets::refusals::ACCEPTED;
 use octets::refusals::UNKNOWN;
@@ -140,18 +139,18 @@ pub fn named_signer(
     }
 }
 
-// The signer whose certificate a message carries.
+// The signer whose certificate stands in a message.
 pub fn carried_signer(
     store: &[u8],
     octets: &[u8],
-    certificate: Certificate,
+    at: usize,
     fields: Fields,
     own: Position,
 ) -> SignerJudged
-    requires { ⌜ (length (now store) ≡ 13568) × Standing (now octets) certificate ⌝ }
-    ensures { λ r. ⌜ r ≡ carriedSigner (now (store .entry)) (now (octets .entry)) certificate fields own ⌝ }
+    requires { ⌜ (length (now store) ≡ 13568) × StandsAt (now octets) at ⌝ }
+    ensures { λ r. ⌜ r ≡ carriedSigner (now (store .entry)) (now (octets .entry)) (certificateIn (now (octets .entry)) at) fields own ⌝ }
 {
-    let r = record_from(octets, certificate);
+    let r = record_at(octets, at);
     let copy = copy_number(store, r);
     if copy != ACCEPTED {
         return refused(copy);

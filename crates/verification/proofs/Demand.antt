@@ -15,8 +15,7 @@ use Rattle.geo.proofs.Bools.{never, or-split}
 use Rattle.octets.specs.Vectors.{nowhere}
 use Rattle.octets.specs.declared.vectors.Part.{Part}
 use Rattle.bitfields.specs.Field.{number, Octets}
-use Rattle.message.specs.Messages.{wholeMessage}
-use Rattle.message.specs.declared.messages.Message.{Message}
+use Rattle.message.specs.Messages.{Message, wholeMessage}
 use Rattle.message.proofs.Forward.{message-forward}
 use Rattle.message.proofs.Inside.{inside}
 use Rattle.records.specs.declared.Record.{Record}
@@ -79,7 +78,7 @@ chain-issuer l Own n r k (anchor w t) = absurd (no-root r k t)
 chain-issuer l Own (suc n) r k (link {j = j} w f c) = issuer-slot l (subjectOf r) j (f .found)
 
 -- the certificate's question
-issuer-asked : (store : List ℕ) (m : Message) (issuer i : ℕ) → m .headers .signer .kind ≡ 2 → find store issuer ≡ some i → certificateQuestion store m issuer ≡ issuerQuestion store m (some i)
+issuer-asked : (store : List ℕ) (m : Message) (issuer i : ℕ) → m .headers .signer .kind ≡ 2 → find store issuer ≡ some i → certificateQuestion store m issuer ≡ issuerQuestion store (m .headers .signer .certificate .signed) (m .headers .signer .certificate .signature .octets) (some i)
 unfolding certificateQuestion
 issuer-asked store m issuer i k f = rw (eq-eqb (m .headers .signer .kind) 2 k, f)
 

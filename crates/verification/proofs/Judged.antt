@@ -9,8 +9,8 @@ use lib.Dec.{eqb, leb}
 use Rattle.order.specs.Steps.{Answer, gives, refused, Steps, done, need, take, run, Named, Numbered}
 use Rattle.order.proofs.Steps.{passes, fails, takes, halts, run-named}
 use Rattle.octets.specs.Reading.{got, refused as unread}
-use Rattle.message.specs.Messages.{wholeMessage}
-use Rattle.message.specs.declared.messages.Message.{Message}
+use Rattle.message.specs.Messages.{Message, wholeMessage}
+use Rattle.message.specs.Parts.{messageParts}
 use Rattle.message.proofs.Forward.{message-forward}
 use Rattle.records.specs.declared.Record.{Record}
 use Rattle.validity.specs.Valid.{validStore}
@@ -101,11 +101,11 @@ module _ (store octets : List ℕ) (x : Situation) where
               judged-stops k e z = sym (ap judgedOf (to-finding ∙ halts (signer-stops (run (signed store octets m (ownPosition x))) k e z) (λ r. done (passed m r))))
 
               pub judged-passes : (i : Identity) → signerOf store octets m (ownPosition x) ≡ record { number = 0; signer = i }
-                  → record { number = 0; message = m; signer = i } ≡ judgement store octets x
+                  → record { number = 0; message = messageParts m; signer = i } ≡ judgement store octets x
               unfolding judgement signerOf run
               judged-passes i e =
                   let g = signer-gives (run (signed store octets m (ownPosition x))) (run-named (signed store octets m (ownPosition x)) (signed-numbered store octets m (ownPosition x))) i e in
-                  sym (ap judgedOf (to-finding ∙ takes (g .1) (λ r. done (passed m r))) ∙ ap (λ (j : Identity). record { number = 0; message = m; signer = j }) (g .2))
+                  sym (ap judgedOf (to-finding ∙ takes (g .1) (λ r. done (passed m r))) ∙ ap (λ (j : Identity). record { number = 0; message = messageParts m; signer = j }) (g .2))
 
   pub judging-numbered : Numbered (judging store octets x)
   judging-numbered = (

@@ -7,8 +7,7 @@ use Rattle.order.specs.Steps.{gives, run, well, Gives}
 use Rattle.order.proofs.Steps.{gives-exactly}
 use Rattle.geo.proofs.Bools.{and-split, and-join}
 use Rattle.bitfields.specs.Field.{Octets}
-use Rattle.message.specs.Messages.{wholeMessage}
-use Rattle.message.specs.declared.messages.Message.{Message}
+use Rattle.message.specs.Messages.{Message, wholeMessage}
 use Rattle.records.specs.declared.Record.{Record}
 use Rattle.validity.proofs.Laws.{laws as valid-laws}
 use Rattle.layout.proofs.Tests.{within-test, test-within}

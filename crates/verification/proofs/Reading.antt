@@ -6,7 +6,7 @@ use native.Mathlib.Omega.{arith}
 use lib.ListN.{length}
 use Rattle.bitfields.specs.Field.{Octets}
 use Rattle.message.specs.Inside.{SignedBy, id, certificate}
-use Rattle.message.specs.declared.messages.Message.{Message}
+use Rattle.message.specs.Messages.{Message}
 use Rattle.message.proofs.Inside.{inside}
 use Rattle.entries.specs.Standing.{Standing}
 use Rattle.entries.proofs.Standing.{standing, widened}

@@ -17,7 +17,7 @@ use Rattle.bitfields.specs.Field.{number, Octets}
 use Rattle.bitfields.proofs.Octets.{octets-take, octets-drop}
 use Rattle.headers.specs.declared.times.Expiration.{Expiration}
 use Rattle.headers.specs.declared.fields.Fields.{Fields}
-use Rattle.message.specs.declared.messages.Message.{Message}
+use Rattle.message.specs.Messages.{Message}
 use Rattle.scope.specs.Issued.{listed, Among}
 use Rattle.scope.proofs.Sets.{listed-among, among-listed}
 use Rattle.records.specs.Layout.{STATE, PADDING, valueOf}

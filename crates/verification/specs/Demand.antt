@@ -6,7 +6,7 @@ use Prim.Native.Nat.{ℕ, _+_, _≤_}
 use lib.ListN.{length}
 use Rattle.order.specs.Steps.{rows, First}
 use Rattle.bitfields.specs.Field.{number, Octets}
-use Rattle.message.specs.declared.messages.Message.{Message}
+use Rattle.message.specs.Messages.{Message}
 use Rattle.records.specs.Records.{recordOf}
 use Rattle.records.specs.declared.Record.{Record}
 use Rattle.store.specs.Slots.{slotOf}

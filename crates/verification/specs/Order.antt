@@ -12,8 +12,9 @@ use Rattle.octets.specs.Reading.{pick}
 use Rattle.octets.specs.Vectors.{nowhere}
 use Rattle.octets.specs.declared.vectors.Part.{Part}
 use Rattle.bitfields.specs.Field.{number}
-use Rattle.message.specs.Messages.{wholeMessage, blank}
-use Rattle.message.specs.declared.messages.Message.{Message}
+use Rattle.message.specs.Messages.{Message, wholeMessage}
+use Rattle.message.specs.Parts.{messageParts, noParts}
+use Rattle.message.specs.declared.messages.MessageParts.{MessageParts}
 use Rattle.records.specs.Records.{recordOf}
 use Rattle.records.specs.declared.Record.{Record}
 use Rattle.store.specs.Slots.{storeLength, slotOf}
@@ -100,13 +101,14 @@ unfoldable pub unasked : Question
 unasked = record { signed = nowhere; kind = 0; key = replicate 32 0; signature = nowhere }
 
 -- the certificate's question, by the key of its issuer, which the walk found
-abbrev pub issuerQuestion : List ℕ → Message → Option ℕ → Question
-issuerQuestion store m none = unasked
-issuerQuestion store m (some i) =
-    question (m .headers .signer .certificate .signed) (publicKey (recordOf (slotOf store i) .key)) (m .headers .signer .certificate .signature .octets)
+abbrev pub issuerQuestion : List ℕ → Part → Part → Option ℕ → Question
+issuerQuestion store range signature none = unasked
+issuerQuestion store range signature (some i) = question range (publicKey (recordOf (slotOf store i) .key)) signature
 
 unfoldable pub certificateQuestion : List ℕ → Message → ℕ → Question
-certificateQuestion store m issuer = pick (carries m) (issuerQuestion store m (find store issuer)) unasked
+certificateQuestion store m issuer =
+    let c = m .headers .signer .certificate in
+    pick (carries m) (issuerQuestion store (c .signed) (c .signature .octets) (find store issuer)) unasked
 
 abbrev pub questionsFor : List ℕ → Passed → Prepared
 questionsFor store p =
@@ -131,11 +133,17 @@ preparation store octets x = preparedOf (run (preparing store octets x))
 
 -- ---- what the code passes on
 
+-- the certificate's question from the parts of a message
+unfoldable pub partsQuestion : List ℕ → MessageParts → ℕ → Question
+partsQuestion store m issuer =
+    let g = m .headers .signer in
+    pick (eqb (g .kind) 2) (issuerQuestion store (g .signed) (g .signature) (find store issuer)) unasked
+
 abbrev pub judgedRefused : ℕ → Judged
-judgedRefused k = record { number = k; message = blank; signer = nobody }
+judgedRefused k = record { number = k; message = noParts; signer = nobody }
 
 abbrev pub judgedOf : Answer Passed → Judged
-judgedOf (gives p) = record { number = ACCEPTED; message = p .message; signer = identityOf (p .signer) }
+judgedOf (gives p) = record { number = ACCEPTED; message = messageParts (p .message); signer = identityOf (p .signer) }
 judgedOf (refused k) = judgedRefused k
 
 unfoldable pub judgement : List ℕ → List ℕ → Situation → Judged

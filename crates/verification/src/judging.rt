@@ -1,17 +1,16 @@
 ghost use mathlib.Core.Path.{_≡_};
 ghost use lib.ListN.{length};
-ghost use Rattle.signing.specs.Signers.{signerOf};
 ghost use Rattle.verification.specs.Order.{judgedRefused, judgement};
-ghost use Rattle.verification.specs.Accepted.{Reads};
+ghost use Rattle.verification.specs.Parts.{ReadsParts, IsSigner};
 use chain::subjects::Position;
-use message::messages::Message;
-use message::messages::no_message;
+use message::messages::MessageParts;
+use message::messages::MessageRead;
+use message::messages::no_parts;
 use message::messages::read_message;
 use octets::refusals::ACCEPTED;
 use octets::refusals::BAD_CALL;
 use octets::refusals::BAD_STORE;
 use octets::refusals::OUT_OF_DATE;
-use octets::vectors::Next;
 use signing::places::in_range;
 use signing::signers::Identity;
 use signing::signers::SignerJudged;
@@ -29,10 +28,10 @@ pub struct Situation {
     pub age: u64,
 }
 
-// A message that passes all tests but the verdicts (number 0), or the number of the refusal and zeros.
+// What is passed on of a message that passes all tests but the verdicts (number 0), or the number of the refusal and zeros.
 pub struct Judged {
     pub number: u8,
-    pub message: Message,
+    pub message: MessageParts,
     pub signer: Identity,
 }
 
@@ -41,20 +40,20 @@ fn refused(number: u8) -> Judged
 {
     Judged {
         number,
-        message: no_message(),
+        message: no_parts(),
         signer: no_signer(),
     }
 }
 
 // The signer of a message that was read from these octets.
-fn signer_of(store: &[u8], octets: &[u8], m: Message, own: Position) -> SignerJudged
-    requires { ⌜ (length (now store) ≡ 13568) × Reads (now octets) m ⌝ }
-    ensures { λ r. ⌜ r ≡ signerOf (now (store .entry)) (now (octets .entry)) m own ⌝ }
+fn signer_of(store: &[u8], octets: &[u8], m: MessageParts, own: Position) -> SignerJudged
+    requires { ⌜ (length (now store) ≡ 13568) × ReadsParts (now octets) m ⌝ }
+    ensures { λ r. ⌜ IsSigner (now (store .entry)) (now (octets .entry)) m own r ⌝ }
 {
     let fields = m.headers.fields;
     if m.headers.signer.kind == 2 {
-        let certificate = m.headers.signer.certificate;
-        return carried_signer(store, octets, certificate, fields, own);
+        let at = m.headers.signer.signed.start;
+        return carried_signer(store, octets, at, fields, own);
     }
     let digest = m.headers.signer.digest;
     named_signer(store, octets, digest, fields, own)
@@ -77,11 +76,9 @@ pub fn judge(store: &[u8], octets: &[u8], x: Situation) -> Judged
         return refused(BAD_STORE);
     }
     let read = read_message(octets);
-    let outcome = read.outcome;
-    let Next::At(_) = outcome else {
-        return refused(outcome.refusal());
+    let MessageRead::Value { message, next: _ } = read else {
+        return refused(read.refusal());
     };
-    let message = read.message;
     let fields = message.headers.fields;
     if !in_time(fields, x.time, x.age) {
         return refused(OUT_OF_DATE);

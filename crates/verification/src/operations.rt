@@ -2,12 +2,12 @@ ghost use mathlib.Core.Path.{_≡_};
 ghost use mathlib.Core.List.{List};
 ghost use Prim.Native.Nat.{ℕ};
 ghost use lib.ListN.{length};
-ghost use Rattle.verification.specs.Order.{situation, question, unasked, certificateQuestion, unprepared, preparation, undecided, decision};
+ghost use Rattle.verification.specs.Order.{situation, question, unasked, partsQuestion, unprepared, preparation, undecided, decision};
 ghost use Rattle.verification.specs.declared.operations.Decision.{Decision};
 ghost use Rattle.verification.specs.declared.operations.Prepared.{Prepared};
 use crate::judging::Situation;
 use crate::judging::judge;
-use message::messages::Message;
+use message::messages::MessageParts;
 use octets::refusals::ACCEPTED;
 use octets::refusals::BAD_SIGNATURE;
 use octets::vectors::Part;
@@ -93,9 +93,9 @@ fn undecided(number: u8) -> Decision
 }
 
 // The question for the certificate that a message carries, by the key of its issuer.
-fn certificate_question(store: &[u8], m: Message, issuer: u64) -> Question
+fn certificate_question(store: &[u8], m: MessageParts, issuer: u64) -> Question
     requires { ⌜ length (now store) ≡ 13568 ⌝ }
-    ensures { λ r. ⌜ r ≡ certificateQuestion (now (store .entry)) m issuer ⌝ }
+    ensures { λ r. ⌜ r ≡ partsQuestion (now (store .entry)) m issuer ⌝ }
 {
     if m.headers.signer.kind != 2 {
         return no_question();
@@ -104,8 +104,8 @@ fn certificate_question(store: &[u8], m: Message, issuer: u64) -> Question
         Found::Nowhere => no_question(),
         Found::At(slot) => {
             let key = key_at(store, slot);
-            let signed = m.headers.signer.certificate.signed;
-            let signature = m.headers.signer.certificate.signature.octets;
+            let signed = m.headers.signer.signed;
+            let signature = m.headers.signer.signature;
             question_of(signed, key, signature)
         }
     }

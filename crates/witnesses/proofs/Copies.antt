@@ -36,8 +36,7 @@ use Rattle.headers.specs.Fields.{fieldsIn}
 use Rattle.message.specs.Signers.{carriedAt, signerInfoAt, signerAt}
 use Rattle.message.specs.Vectors.{headersIn, headersAt}
 use Rattle.message.specs.Bodies.{payloadAt, trailerIn, trailerAt}
-use Rattle.message.specs.Messages.{wholeMessage}
-use Rattle.message.specs.declared.messages.Message.{Message}
+use Rattle.message.specs.Messages.{Message, wholeMessage}
 use Rattle.bitfields.specs.Field.{number, digitsAt, field}
 use Rattle.bitfields.specs.Runs.{fieldsOf}
 use Rattle.records.specs.Records.{regionOf, permissionsOf, scopeOf, recordOf, imageOf}

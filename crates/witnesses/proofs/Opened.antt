@@ -9,8 +9,7 @@ use Rattle.order.specs.Steps.{Answer, gives, refused, onward, Steps, done, need
 use Rattle.order.proofs.Steps.{passes, run-follow}
 use Rattle.chain.specs.Stored.{answered}
 use Rattle.validity.specs.Valid.{validStore}
-use Rattle.message.specs.Messages.{wholeMessage}
-use Rattle.message.specs.declared.messages.Message.{Message}
+use Rattle.message.specs.Messages.{Message, wholeMessage}
 use Rattle.signing.specs.Times.{inTime}
 use Rattle.signing.specs.Places.{inRange}
 use Rattle.signing.specs.Signers.{signed}

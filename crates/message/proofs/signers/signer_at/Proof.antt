@@ -1,6 +1,8 @@
 -- `message::signers::signer_at` meets its contract. Assumes nothing.
 use Prim.Native.Nat.{ℕ}
-use Rattle.message.specs.Signers.{signerAt}
+use Rattle.certificate.specs.Certificates.{blank}
+use Rattle.message.specs.Parts.{kept, signerParts}
+use Rattle.message.specs.Signers.{unsigned, signerAt}
 use Rattle.octets.proofs.Laws.{chosen, fail, pass, passed}
 use Rattle.octets.specs.Reading.{refused}
 use borrow.Author.Needs.{needs}
@@ -9,12 +11,9 @@ use mathlib.Core.Path.{_∙_, ap, sym}
 use Rattle.message.proofs.signers.signer_at.Statement.{statement}
 use Rattle.message.proofs.signers.signer_at.Tie as tie
 
-no-signer-requires : tie.Need-no-signer-requires
-no-signer-requires c κs = search needs
-
 returns : tie.Need-returns
-unfolding signerAt
-returns c = rw (c .no-signer .ensures) (sym (passed (le-ltb _ _ (c .before .if1 .taken)) _ _))
+unfolding signerAt unsigned blank
+returns c = ap (kept signerParts) (sym (passed (le-ltb _ _ (c .if1 .taken)) _ _))
 
 shared-slice-read-t : tie.Need-shared-slice-read-t
 shared-slice-read-t c = search needs
@@ -22,13 +21,11 @@ shared-slice-read-t c = search needs
 stray-requires : tie.Need-stray-requires
 stray-requires c κs = search needs
 
-signer-refused-requires : tie.Need-signer-refused-requires
-signer-refused-requires c κs = search needs
-
 returns-2 : tie.Need-returns-2
 unfolding signerAt
-returns-2 c = c .signer-refused .ensures ∙ ap (λ (n : ℕ). refused n) (c .before .stray .ensures)
-    ∙ sym (chosen (lt-ltb _ _ (c .before .before .before .before .if1 .left)) _ _ ∙ fail (ne-eqb _ _ (c .before .before .if2 .taken)) _ _)
+returns-2 c =
+    ap (λ (n : ℕ). refused n) (c .stray .ensures)
+    ∙ ap (kept signerParts) (sym (chosen (lt-ltb _ _ (c .before .before .before .if1 .left)) _ _ ∙ fail (ne-eqb _ _ (c .before .if2 .taken)) _ _))
 
 add-signer-info-at : tie.Need-add-signer-info-at
 add-signer-info-at c = search needs
@@ -38,17 +35,15 @@ signer-info-at-requires c κs = search needs
 
 returns-3 : tie.Need-returns-3
 unfolding signerAt
-returns-3 c = c .signer-info-at .ensures ∙ sym (chosen (lt-ltb _ _ (c .before .before .before .if1 .left)) _ _ ∙ pass (eq-eqb _ _ (c .before .if2 .left)) _ _)
+returns-3 c = c .signer-info-at .ensures ∙ ap (kept signerParts) (sym (chosen (lt-ltb _ _ (c .before .before .before .if1 .left)) _ _ ∙ pass (eq-eqb _ _ (c .before .if2 .left)) _ _))
 
 pub signer-at-spec : {M : Type 1} → statement M
 signer-at-spec =
     tie.close
     (tie.spec
-    no-signer-requires
     returns
     shared-slice-read-t
     stray-requires
-    signer-refused-requires
     returns-2
     add-signer-info-at
     signer-info-at-requires

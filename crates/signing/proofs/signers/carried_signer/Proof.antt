@@ -4,7 +4,9 @@ use native.Mathlib.Omega.{arith}
 use Rattle.records.specs.Ranges.{InRange}
 use Rattle.records.specs.declared.Record.{Record}
 use Rattle.entries.specs.Stored.{recordFrom}
+use Rattle.entries.specs.Standing.{certificateIn}
 use Rattle.entries.proofs.Facts.{facts}
+use Rattle.entries.proofs.Standing.{stands-at}
 use Rattle.signing.specs.Copies.{copyNumber}
 use Rattle.signing.specs.Signers.{entitledNumber, identityOf}
 use Rattle.signing.specs.declared.signers.Identity.{Identity}
@@ -17,20 +19,20 @@ use Rattle.signing.proofs.signers.carried_signer.Tie as tie
 abbrev signs : Identity → SignerJudged
 signs i = record { number = 0; signer = i }
 
-ranged : (c : tie.After-record-from) → InRange (c .record-from .result)
+ranged : (c : tie.After-record-at) → InRange (c .record-at .result)
 ranged c =
     let a = c .before .before .before .args in
-    subst InRange (sym (c .record-from .ensures))
-    (facts (a .octets .now) (a .certificate) (λ i. omega (arith, c .before .shared-slice-known2 .given i)) (c .before .before .before .pre .1) .in-range)
+    subst InRange (sym (c .record-at .ensures))
+    (facts (a .octets .now) (certificateIn (a .octets .now) (a .at)) (λ i. omega (arith, c .before .shared-slice-known2 .given i)) (stands-at _ _ (c .before .before .before .pre .1)) .in-range)
 
-copied : (c : tie.After-copy-number) → c .copy-number .result ≡ copyNumber (c .before .before .before .before .args .store .now) (recordFrom (c .before .before .before .before .args .octets .now) (c .before .before .before .before .args .certificate))
-copied c = c .copy-number .ensures ∙ ap (λ (r : Record). copyNumber (c .before .before .before .before .args .store .now) r) (c .before .record-from .ensures)
+copied : (c : tie.After-copy-number) → c .copy-number .result ≡ copyNumber (c .before .before .before .before .args .store .now) (recordFrom (c .before .before .before .before .args .octets .now) (certificateIn (c .before .before .before .before .args .octets .now) (c .before .before .before .before .args .at)))
+copied c = c .copy-number .ensures ∙ ap (λ (r : Record). copyNumber (c .before .before .before .before .args .store .now) r) (c .before .record-at .ensures)
 
-tested : (c : tie.After-entitled) → let a = c .before .before .before .before .before .before .args in c .entitled .result ≡ entitledNumber (a .store .now) (a .fields) (a .own) (recordFrom (a .octets .now) (a .certificate))
-tested c = let a = c .before .before .before .before .before .before .args in c .entitled .ensures ∙ ap (λ (r : Record). entitledNumber (a .store .now) (a .fields) (a .own) r) (c .before .before .before .record-from .ensures)
+tested : (c : tie.After-entitled) → let a = c .before .before .before .before .before .before .args in c .entitled .result ≡ entitledNumber (a .store .now) (a .fields) (a .own) (recordFrom (a .octets .now) (certificateIn (a .octets .now) (a .at)))
+tested c = let a = c .before .before .before .before .before .before .args in c .entitled .ensures ∙ ap (λ (r : Record). entitledNumber (a .store .now) (a .fields) (a .own) r) (c .before .before .before .record-at .ensures)
 
-record-from-requires : tie.Need-record-from-requires
-record-from-requires c κs = search needs
+record-at-requires : tie.Need-record-at-requires
+record-at-requires c κs = c .before .before .pre .1
 
 copy-number-requires : tie.Need-copy-number-requires
 copy-number-requires c κs = (c .before .before .before .pre .0, ranged c)
@@ -54,13 +56,13 @@ identity-of-requires : tie.Need-identity-of-requires
 identity-of-requires c κs = ranged (c .before .before .before .before) .parity
 
 returns-3 : tie.Need-returns-3
-returns-3 c = ap (λ (i : Identity). signs i) (c .identity-of .ensures ∙ ap identityOf (c .before .before .before .before .before .record-from .ensures)) ∙ carried-passes _ _ _ _ _ (sym (copied (c .before .before .before .before)) ∙ c .before .before .before .if1 .left) (sym (tested (c .before .before)) ∙ c .before .if2 .left)
+returns-3 c = ap (λ (i : Identity). signs i) (c .identity-of .ensures ∙ ap identityOf (c .before .before .before .before .before .record-at .ensures)) ∙ carried-passes _ _ _ _ _ (sym (copied (c .before .before .before .before)) ∙ c .before .before .before .if1 .left) (sym (tested (c .before .before)) ∙ c .before .if2 .left)
 
 pub carried-signer-spec : {M : Type 1} → statement M
 carried-signer-spec =
     tie.close
     (tie.spec
-    record-from-requires
+    record-at-requires
     copy-number-requires
     refused-requires
     returns

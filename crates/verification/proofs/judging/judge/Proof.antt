@@ -9,12 +9,16 @@ use mir.Facts.{toZ-ofZ}
 use mir.Syntax.{w32}
 use mir.Val.{SFits}
 use Rattle.geo.proofs.Bools.{of-not}
-use Rattle.octets.specs.Reading.{got, refused, refusalOf}
-use Rattle.octets.specs.Vectors.{outOf, placeOf}
-use Rattle.octets.specs.declared.vectors.Next.{Next}
-use Rattle.message.specs.Messages.{wholeMessage}
+use Rattle.octets.specs.Reading.{got, refusalOf}
+use Rattle.octets.proofs.Laws.{was}
+use Rattle.message.specs.Messages.{Message, wholeMessage}
+use Rattle.message.specs.Parts.{messageOf, messageParts}
+use Rattle.message.specs.declared.messages.MessageParts.{MessageParts}
+use Rattle.message.specs.declared.messages.MessageRead.{MessageRead}
+use Rattle.message.proofs.Kept.{kept-got, kept-refused}
 use Rattle.validity.specs.Valid.{validStore}
 use Rattle.signing.specs.Places.{inRange}
+use Rattle.signing.specs.Times.{inTime}
 use Rattle.signing.specs.Signers.{signerOf}
 use Rattle.verification.specs.Order.{ownPosition, judgedRefused}
 use Rattle.signing.specs.declared.signers.SignerJudged.{SignerJudged}
@@ -44,15 +48,20 @@ good : (c : tie.Else4) → validStore (c .before .before .before .before .before
 good c = sym (c .before .valid .ensures) ∙ of-not _ (c .if4 .left)
 
 -- the message that was read
-read : (c : tie.After-enum-told) → wholeMessage (c .before .before .before .before .before .before .before .before .before .before .before .before .before .before .args .octets .now) ≡ got (c .before .before .read-message .result .message) (c .enum-told .given .0 .0)
-read c = sym (c .before .before .read-message .ensures) ∙ ap (λ (o : Next). outOf o (c .before .before .read-message .result .message)) (c .enum-told .given .1)
+read : (c : tie.After-known-told) → let octets = c .before .before .before .before .before .before .before .before .before .before .before .before .before .before .before .args .octets .now in (w : Message) × (wholeMessage octets ≡ got w (c .before .read .given .0 .1 .0)) × (messageParts w ≡ c .before .read .given .0 .0)
+read c = kept-got messageParts _ (was messageOf (c .before .before .before .read-message .ensures) (c .before .read .given .1))
+
+-- its time
+timed : (c : tie.After-in-time) → let x = c .before .before .before .before .before .before .before .before .before .before .before .before .before .before .before .before .before .args .x in c .in-time .result ≡ inTime (read (c .before .before) .0 .headers .fields) (x .time) (x .age)
+timed c = c .in-time .ensures ∙ sym (ap (λ (p : MessageParts). inTime (p .headers .fields) (c .before .before .before .before .before .before .before .before .before .before .before .before .before .before .before .before .before .args .x .time) (c .before .before .before .before .before .before .before .before .before .before .before .before .before .before .before .before .before .args .x .age)) (read (c .before .before) .2))
 
 -- its signer, at the caller's own position
-judged : (c : tie.After-signer-of) → let a = c .before .before .before .before .before .before .before .before .before .before .before .before .before .before .before .before .before .before .before .before .args in c .signer-of .result ≡ signerOf (a .store .now) (a .octets .now) (c .before .before .before .before .before .before .before .before .read-message .result .message) (ownPosition (a .x))
+judged : (c : tie.After-signer-of) → let a = c .before .before .before .before .before .before .before .before .before .before .before .before .before .before .before .before .before .before .before .before .args in c .signer-of .result ≡ signerOf (a .store .now) (a .octets .now) (read (c .before .before .before .before .before) .0) (ownPosition (a .x))
 judged c =
+    let w = read (c .before .before .before .before .before) in
     let latitude : SFits w32 (c .before .before .before .before .before .before .before .before .before .before .before .before .before .before .before .before .before .before .before .before .args .x .latitude) = search needs in
     let longitude : SFits w32 (c .before .before .before .before .before .before .before .before .before .before .before .before .before .before .before .before .before .before .before .before .args .x .longitude) = search needs in
-    rw (toZ-ofZ latitude, toZ-ofZ longitude) at (c .signer-of .ensures)
+    rw (toZ-ofZ latitude, toZ-ofZ longitude) at (c .signer-of .ensures (w .0) (_, w .1) (w .2))
 
 refused-requires : tie.Need-refused-requires
 refused-requires c κs = search needs
@@ -87,11 +96,11 @@ returns-4 c = c .refused4 .ensures ∙ judged-bad _ _ _ (eq-eqb _ _ (c .before .
 read-message-requires : tie.Need-read-message-requires
 read-message-requires c κs = search needs
 
+enum-known-read : tie.Need-enum-known-read
+enum-known-read c = search needs
+
 enum-told : tie.Need-enum-told
 enum-told c = search needs
-
-enum-told-2 : tie.Need-enum-told-2
-enum-told-2 c = search needs
 
 refusal-requires : tie.Need-refusal-requires
 refusal-requires c κs = search needs
@@ -101,9 +110,10 @@ refused-requires-5 c κs = search needs
 
 returns-5 : tie.Need-returns-5
 returns-5 c =
+    let before = c .before .before .before .before .before in
     c .refused5 .ensures
-    ∙ ap judgedRefused (c .before .refusal .ensures ∙ ap (λ (o : Next). refusalOf (placeOf o)) (c .before .before .enum-told2 .given .1))
-    ∙ judged-unread _ _ _ (size (c .before .before .before .before .before)) (place (c .before .before .before .before .before)) (aged (c .before .before .before .before .before)) (good (c .before .before .before .before .before)) _ (sym (c .before .before .before .before .read-message .ensures) ∙ ap (λ (o : Next). outOf o (c .before .before .before .before .read-message .result .message)) (c .before .before .enum-told2 .given .1))
+    ∙ ap judgedRefused (c .before .refusal .ensures ∙ ap (λ (o : MessageRead). refusalOf (messageOf o)) (c .before .before .enum-told .given .1))
+    ∙ judged-unread _ _ _ (size before) (place before) (aged before) (good before) _ (kept-refused messageParts _ (was messageOf (c .before .before .before .before .read-message .ensures) (c .before .before .enum-told .given .1)))
 
 in-time-requires : tie.Need-in-time-requires
 in-time-requires c κs = search needs
@@ -112,23 +122,29 @@ refused-requires-6 : tie.Need-refused-requires-6
 refused-requires-6 c κs = search needs
 
 returns-6 : tie.Need-returns-6
-returns-6 c = c .refused6 .ensures ∙ judged-late _ _ _ (size (c .before .before .before .before .before .before .before .before)) (place (c .before .before .before .before .before .before .before .before)) (aged (c .before .before .before .before .before .before .before .before)) (good (c .before .before .before .before .before .before .before .before)) _ _ (read (c .before .before .before .before .before)) (sym (c .before .before .in-time .ensures) ∙ of-not _ (c .before .if5 .taken))
+returns-6 c =
+    let before = c .before .before .before .before .before .before .before .before in
+    c .refused6 .ensures ∙ judged-late _ _ _ (size before) (place before) (aged before) (good before) _ _ (read (c .before .before .before .before) .1) (sym (timed (c .before .before)) ∙ of-not _ (c .before .if5 .taken))
 
 signer-of-requires : tie.Need-signer-of-requires
-signer-of-requires c κs = (c .before .before .before .before .before .before .before .before .before .before .before .before .before .before .before .before .if1 .left, (_, read (c .before .before .before .before .before)))
+signer-of-requires c κs = let w = read (c .before .before .before .before) in (c .before .before .before .before .before .before .before .before .before .before .before .before .before .before .before .before .if1 .left, (w .0, (_, w .1), w .2))
 
 refused-requires-7 : tie.Need-refused-requires-7
 refused-requires-7 c κs = search needs
 
 returns-7 : tie.Need-returns-7
 returns-7 c =
+    let before = c .before .before .before .before .before .before .before .before .before .before .before in
     c .refused7 .ensures
-    ∙ judged-stops _ _ _ (size (c .before .before .before .before .before .before .before .before .before .before .before)) (place (c .before .before .before .before .before .before .before .before .before .before .before)) (aged (c .before .before .before .before .before .before .before .before .before .before .before)) (good (c .before .before .before .before .before .before .before .before .before .before .before)) _ _ (read (c .before .before .before .before .before .before .before .before)) (sym (c .before .before .before .before .before .in-time .ensures) ∙ of-not _ (c .before .before .before .before .if5 .left)) _ (ap (λ (s : SignerJudged). s .number) (judged (c .before .before))) (c .before .if6 .taken)
+    ∙ judged-stops _ _ _ (size before) (place before) (aged before) (good before) _ _ (read (c .before .before .before .before .before .before .before) .1) (sym (timed (c .before .before .before .before .before)) ∙ of-not _ (c .before .before .before .before .if5 .left)) _ (ap (λ (s : SignerJudged). s .number) (judged (c .before .before))) (c .before .if6 .taken)
 
 returns-8 : tie.Need-returns-8
 returns-8 c =
-    judged-passes _ _ _ (size (c .before .before .before .before .before .before .before .before .before .before .before)) (place (c .before .before .before .before .before .before .before .before .before .before .before)) (aged (c .before .before .before .before .before .before .before .before .before .before .before)) (good (c .before .before .before .before .before .before .before .before .before .before .before)) _ _ (read (c .before .before .before .before .before .before .before .before)) (sym (c .before .before .before .before .before .in-time .ensures) ∙ of-not _ (c .before .before .before .before .if5 .left)) _
-    (sym (judged (c .before .before)) ∙ ap (λ (n : ℕ). record { number = n; signer = c .before .before .signer-of .result .signer }) (c .before .if6 .left))
+    let before = c .before .before .before .before .before .before .before .before .before .before .before in
+    let signer = c .before .before .signer-of .result .signer in
+    ap (λ (p : MessageParts). record { number = 0; message = p; signer = signer }) (sym (read (c .before .before .before .before .before .before .before) .2))
+    ∙ judged-passes _ _ _ (size before) (place before) (aged before) (good before) _ _ (read (c .before .before .before .before .before .before .before) .1) (sym (timed (c .before .before .before .before .before)) ∙ of-not _ (c .before .before .before .before .if5 .left)) signer
+    (sym (judged (c .before .before)) ∙ ap (λ (n : ℕ). record { number = n; signer = signer }) (c .before .if6 .left))
 
 pub judge-spec : {M : Type 1} → statement M
 judge-spec =
@@ -145,8 +161,8 @@ judge-spec =
     refused-requires-4
     returns-4
     read-message-requires
+    enum-known-read
     enum-told
-    enum-told-2
     refusal-requires
     refused-requires-5
     returns-5

@@ -3,7 +3,7 @@ use mathlib.Core.Path.{sym, ap, _∙_}
 use borrow.Author.Tests.{eq-eqb, ne-eqb}
 use Rattle.store.specs.Search.{foundOf}
 use Rattle.store.proofs.Found.{find-finds}
-use Rattle.verification.specs.Order.{certificateQuestion}
+use Rattle.verification.specs.Order.{partsQuestion}
 use borrow.Author.Needs.{needs}
 use Rattle.verification.proofs.operations.certificate_question.Statement.{statement}
 use Rattle.verification.proofs.operations.certificate_question.Tie as tie
@@ -12,7 +12,7 @@ no-question-requires : tie.Need-no-question-requires
 no-question-requires c κs = search needs
 
 returns : tie.Need-returns
-unfolding certificateQuestion
+unfolding partsQuestion
 returns c = rw (ne-eqb _ _ (c .before .if1 .taken)) (c .no-question .ensures)
 
 find-id-requires : tie.Need-find-id-requires
@@ -34,11 +34,11 @@ question-of-requires : tie.Need-question-of-requires
 question-of-requires c κs = search needs
 
 returns-2 : tie.Need-returns-2
-unfolding certificateQuestion
+unfolding partsQuestion
 returns-2 c = rw (eq-eqb _ _ (c .before .before .before .before .if1 .left), sym (c .before .before .before .find-id .ensures) ∙ ap foundOf (c .before .enum-told .given .1)) (c .no-question2 .ensures)
 
 returns-3 : tie.Need-returns-3
-unfolding certificateQuestion
+unfolding partsQuestion
 returns-3 c = rw (eq-eqb _ _ (c .before .before .before .before .before .before .before .before .if1 .left), sym (c .before .before .before .before .before .before .before .find-id .ensures) ∙ ap foundOf (c .before .before .before .before .before .slot .given .1)) (rw (c .before .before .before .key-at .ensures) at (c .question-of .ensures))
 
 pub certificate-question-spec : {M : Type 1} → statement M

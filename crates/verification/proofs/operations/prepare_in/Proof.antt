@@ -1,7 +1,7 @@
 -- By what the judgement passes on. Assumes nothing.
 use mathlib.Core.Path.{_≡_, _∙_}
 use Rattle.order.specs.Steps.{gives, run}
-use Rattle.verification.specs.Order.{Passed, judging, judgedOf}
+use Rattle.verification.specs.Order.{Passed, judging, certificateQuestion, judgedOf, partsQuestion}
 use Rattle.verification.proofs.Decided.{passed-on, judged-size, prepared-stops, prepared-passes}
 use borrow.Author.Needs.{needs}
 use Rattle.verification.proofs.operations.prepare_in.Statement.{statement}
@@ -27,6 +27,7 @@ certificate-question-requires : tie.Need-certificate-question-requires
 certificate-question-requires c κs = let p = on (c .before .before .before .before .before) in judged-size (c .before .before .before .before .before .before .before .before .before .args .store .now) (c .before .before .before .before .before .before .before .before .before .args .message .now) (c .before .before .before .before .before .before .before .before .before .args .x) (p .0) (p .1)
 
 returns-2 : tie.Need-returns-2
+unfolding partsQuestion certificateQuestion
 returns-2 c =
     let p = on (c .before .before .before .before .before .before) in
     rw (c .before .question-of .ensures, c .certificate-question .ensures, p .2) (prepared-passes (c .before .before .before .before .before .before .before .before .before .before .args .store .now) (c .before .before .before .before .before .before .before .before .before .before .args .message .now) (c .before .before .before .before .before .before .before .before .before .before .args .x) (p .0) (p .1))
