@@ -62,6 +62,14 @@ pub use refusal::Refusal;
 pub use store::{admit, empty_store, install};
 pub use withdrawal::{list, page, withdraw};
 
+/// The version of the library, that of the C header: `NATTVELDI_VERSION` in
+/// `include/nattveldi.h`, the only place where it is given.
+///
+/// ```
+/// assert_eq!(nattveldi::VERSION.split('.').count(), 3);
+/// ```
+pub const VERSION: &str = env!("NATTVELDI_VERSION");
+
 /// Reads a certificate.
 ///
 /// ```
