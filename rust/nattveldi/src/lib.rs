@@ -37,8 +37,9 @@
 //! ```
 //!
 //! The archive is made by `rt staticlib nattveldi_c` in the repository's root.
-//! If it stands in another folder than `target/staticlib` there, the
-//! environment variable `NATTVELDI_LIB_DIR` names that folder.
+//! The build looks for it in the folder that the environment variable
+//! `NATTVELDI_LIB_DIR` names or, without that, in `target/staticlib` there, and
+//! then where pkg-config knows an installed one of the same version.
 
 #![deny(unsafe_code)]
 #![warn(missing_docs)]
