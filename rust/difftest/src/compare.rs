@@ -50,6 +50,16 @@ fn numbers(left: u8, right: u8) -> Option<String> {
     (left != right).then(|| format!("number {left} against {right}"))
 }
 
+/// The first octet in which two buffers of one length differ, if they do.
+pub fn octets(what: &str, left: &[u8], right: &[u8]) -> Option<String> {
+    assert_eq!(left.len(), right.len(), "{what}");
+    let at = (0..left.len()).find(|&at| left[at] != right[at])?;
+    Some(format!(
+        "{what}, octet {at}: {:02x} against {:02x}",
+        left[at], right[at]
+    ))
+}
+
 /// Where two answers to `read` differ, if they do.
 pub fn readings(left: &Reading, right: &Reading) -> Option<String> {
     numbers(left.number, right.number).or_else(|| {

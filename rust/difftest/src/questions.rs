@@ -72,7 +72,7 @@ fn filled<'a>(slots: &'a mut Slots, random: &mut Random) -> &'a mut Entry {
 }
 
 /// Inside a period, at its ends, or one beyond them.
-fn second(entry: &Entry, random: &mut Random) -> u32 {
+pub fn second(entry: &Entry, random: &mut Random) -> u32 {
     let second = |number: u64| u32::try_from(number).unwrap_or(u32::MAX);
     let (start, end) = (entry.start, second(entry.end));
     let last = second(entry.end - 1);

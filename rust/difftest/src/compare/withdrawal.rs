@@ -1,6 +1,6 @@
 //! The sides held against each other on a withdrawal: list, store, page.
 
-use super::{changes, numbers, same};
+use super::{changes, numbers, octets, same};
 use crate::changes::Changed;
 use crate::lists::{List, Listed};
 use crate::pages::{self, Paged};
@@ -50,16 +50,6 @@ pub fn texts(left: &Paged, right: &Paged) -> Option<String> {
         (left.length != right.length)
             .then(|| format!("length {} against {}", left.length, right.length))
     })
-}
-
-/// The first octet in which two buffers of one length differ.
-fn octets(what: &str, left: &[u8], right: &[u8]) -> Option<String> {
-    assert_eq!(left.len(), right.len(), "{what}");
-    let at = (0..left.len()).find(|&at| left[at] != right[at])?;
-    Some(format!(
-        "{what}, octet {at}: {:02x} against {:02x}",
-        left[at], right[at]
-    ))
 }
 
 #[cfg(test)]
