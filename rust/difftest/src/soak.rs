@@ -58,7 +58,7 @@ fn step(made: Made, library: Ask, living: &mut Living, table: &mut Table) -> Res
         Keeps::Entered(plan) if number == 0 => {
             if let Request::Change(change) = &call.request {
                 let id = reference::id(&change.certificate).expect("it went in");
-                living.grow(given.store, plan, id);
+                living.grow(given.store, *plan, id);
             }
         }
         Keeps::Withdrawn if number == 0 => living.store = given.store,

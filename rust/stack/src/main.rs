@@ -99,7 +99,7 @@ mod tests {
             };
             let octets = of(&worst).expect("a row of each operation");
             assert!(octets < LIMIT, "{operation}: {octets}");
-            let other = of(&others).unwrap_or(0);
+            let other = of(&others).expect("a random input of each operation");
             assert!(other <= octets + FRAMES, "{operation}: {other}, {octets}");
         }
     }

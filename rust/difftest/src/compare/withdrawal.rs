@@ -7,13 +7,11 @@ use crate::pages::{self, Paged};
 use crate::sides::Side;
 use crate::withdrawals::Withdrawal;
 
-const PROVED: [Side; 2] = [Side::Library, Side::Bindings];
-
 /// Asks all sides for a list. Answers what they agree on, or says where they
 /// differ.
 pub fn list(list: &List) -> Result<Listed, String> {
     let answer = list.ask(Side::Reference);
-    for side in PROVED {
+    for side in Side::PROVED {
         same(side, "list", lists(&list.ask(side), &answer))?;
     }
     Ok(answer)
@@ -22,7 +20,7 @@ pub fn list(list: &List) -> Result<Listed, String> {
 /// Asks all sides to withdraw.
 pub fn withdraw(withdrawal: &Withdrawal) -> Result<Changed, String> {
     let answer = withdrawal.ask(Side::Reference);
-    for side in PROVED {
+    for side in Side::PROVED {
         same(side, "withdraw", changes(&withdrawal.ask(side), &answer))?;
     }
     Ok(answer)
@@ -31,7 +29,7 @@ pub fn withdraw(withdrawal: &Withdrawal) -> Result<Changed, String> {
 /// Asks all sides for a page.
 pub fn page(input: &[u8]) -> Result<Paged, String> {
     let answer = pages::ask(Side::Reference, input);
-    for side in PROVED {
+    for side in Side::PROVED {
         same(side, "page", texts(&pages::ask(side, input), &answer))?;
     }
     Ok(answer)

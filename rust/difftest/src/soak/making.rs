@@ -27,7 +27,7 @@ pub enum Keeps {
     /// The request is on another store, or it changes none.
     Nothing,
     /// This certificate goes in.
-    Entered(Plan),
+    Entered(Box<Plan>),
     Withdrawn,
 }
 
@@ -98,7 +98,7 @@ fn change(living: &Living, random: &mut Random) -> Made {
         certificate: Draft::of(&plan).encode().octets(),
         verdict: 1,
     };
-    let mut keeps = Keeps::Entered(plan.clone());
+    let mut keeps = Keeps::Entered(Box::new(plan.clone()));
     match random.below(32) {
         0 => change.operation = random.pick(&[Operation::Install, Operation::Admit]),
         1 => change.verdict = random.octet(),
