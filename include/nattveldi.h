@@ -18,6 +18,11 @@
 extern "C" {
 #endif
 
+/* The version of the library. It is given here alone: the bindings and the
+ * installation read it from this line.
+ */
+#define NATTVELDI_VERSION "1.0.0"
+
 /* The answers. */
 enum {
     NATTVELDI_ACCEPTED = 0,

@@ -6,11 +6,12 @@ use std::path::PathBuf;
 
 /// Each library is in its archive `libNAME.a` and sets the condition `NAME`.
 const LIBRARIES: [&str; 2] = ["sha256_c", "store_c"];
-const VARIABLE: &str = "NATTVELDI_LIB_DIR";
+/// The folder of the proved library, which the bindings' build script found.
+const VARIABLE: &str = "DEP_NATTVELDI_C_FOLDER";
 
 fn main() {
-    let folder = folder();
-    println!("cargo::rerun-if-env-changed={VARIABLE}");
+    let folder = env::var_os(VARIABLE).expect("the bindings tell the folder");
+    let folder = PathBuf::from(folder);
     println!("cargo::rustc-link-search=native={}", folder.display());
     for library in LIBRARIES {
         let archive = folder.join(format!("lib{library}.a"));
@@ -19,18 +20,6 @@ fn main() {
         if archive.is_file() {
             println!("cargo::rustc-cfg={library}");
             println!("cargo::rustc-link-lib=static={library}");
-        }
-    }
-}
-
-/// The folder that the variable names, or the one `rt staticlib` writes to.
-fn folder() -> PathBuf {
-    match env::var_os(VARIABLE) {
-        Some(folder) => PathBuf::from(folder),
-        None => {
-            let manifest =
-                env::var_os("CARGO_MANIFEST_DIR").expect("cargo sets CARGO_MANIFEST_DIR");
-            PathBuf::from(manifest).join("../../target/staticlib")
         }
     }
 }

@@ -7,6 +7,7 @@ use difftest::plan::{AUTHORITY, ROOT, TICKET};
 use difftest::random::Random;
 use difftest::slot::{SLOTS, STORE_LENGTH};
 use difftest::withdrawals::Withdrawal;
+use nattveldi::raw::ID_LENGTH;
 
 use crate::set::Set;
 
@@ -15,7 +16,6 @@ const STORES: usize = 20;
 const CHAIN: usize = 8;
 /// A second at which all stand.
 const SECOND: u32 = 500;
-pub const ID_LENGTH: usize = 8;
 
 /// How much a certificate has to compare with its issuer.
 #[derive(Clone, Copy)]

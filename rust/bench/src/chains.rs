@@ -4,9 +4,9 @@
 use std::hint::black_box;
 
 use difftest::random::Random;
-use nattveldi::raw::{self, STORE_LENGTH};
+use nattveldi::raw::{self, ID_LENGTH, STORE_LENGTH};
 
-use crate::chain_set::{self, ID_LENGTH};
+use crate::chain_set;
 use crate::measure::{Buffer, Change, Read, Work};
 use crate::stores::Row;
 

@@ -33,6 +33,7 @@ functions, and its buffer is not cleared between calls; a row that says bindings
 times the safe bindings over them. Stores that a call changes are restored
 outside the timed part. SHA-256 is timed if `rt staticlib sha256_c` was run
 before this was built, validity and records if `rt staticlib store_c` was.
+--version prints the library's version, --help this.
 ";
 const ROUNDS: usize = 300;
 /// The seed of the inputs: each run has the same ones.
@@ -52,6 +53,10 @@ fn main() -> ExitCode {
         }
         None if words == ["--help"] => {
             print!("{HELP}");
+            ExitCode::SUCCESS
+        }
+        None if words == ["--version"] => {
+            println!("bench {}", nattveldi::VERSION);
             ExitCode::SUCCESS
         }
         None => {

@@ -3,7 +3,7 @@
 pub mod message;
 pub mod withdrawal;
 
-use nattveldi::raw::{word_at, WORDS};
+use nattveldi::raw::word_at;
 
 use crate::changes::{Change, Changed};
 use crate::sides::{self, Id, Reading, Side};
@@ -14,7 +14,7 @@ use crate::slot::SLOT_LENGTH;
 pub fn certificate(certificate: &[u8]) -> Result<u8, String> {
     let reading = sides::read(Side::Reference, certificate);
     let id = sides::id(Side::Reference, certificate);
-    for side in [Side::Library, Side::Bindings] {
+    for side in Side::PROVED {
         let difference = readings(&sides::read(side, certificate), &reading);
         same(side, "read", difference)?;
         same(side, "id", ids(&sides::id(side, certificate), &id))?;
@@ -32,7 +32,7 @@ pub fn certificate(certificate: &[u8]) -> Result<u8, String> {
 pub fn change(change: &Change) -> Result<Changed, String> {
     let answer = change.ask(Side::Reference);
     let operation = format!("{:?}", change.operation);
-    for side in [Side::Library, Side::Bindings] {
+    for side in Side::PROVED {
         same(side, &operation, changes(&change.ask(side), &answer))?;
     }
     Ok(answer)
@@ -50,10 +50,27 @@ fn numbers(left: u8, right: u8) -> Option<String> {
     (left != right).then(|| format!("number {left} against {right}"))
 }
 
+/// The first place at which two lists of one length differ, if they do.
+fn first_difference<T: PartialEq>(left: &[T], right: &[T]) -> Option<usize> {
+    assert_eq!(left.len(), right.len(), "lists of one length");
+    left.iter()
+        .zip(right)
+        .position(|(left, right)| left != right)
+}
+
+/// The first octet in which two buffers of one length differ, if they do.
+pub fn octets(what: &str, left: &[u8], right: &[u8]) -> Option<String> {
+    let at = first_difference(left, right)?;
+    Some(format!(
+        "{what}, octet {at}: {:02x} against {:02x}",
+        left[at], right[at]
+    ))
+}
+
 /// Where two answers to `read` differ, if they do.
 pub fn readings(left: &Reading, right: &Reading) -> Option<String> {
     numbers(left.number, right.number).or_else(|| {
-        let at = (0..WORDS).find(|&i| left.words[i] != right.words[i])?;
+        let at = first_difference(&left.words, &right.words)?;
         Some(format!(
             "{} {} against {}",
             name(at),
@@ -73,8 +90,7 @@ pub fn ids(left: &Id, right: &Id) -> Option<String> {
 /// Where two answers to a change differ, if they do.
 pub fn changes(left: &Changed, right: &Changed) -> Option<String> {
     numbers(left.number, right.number).or_else(|| {
-        let mut octets = left.store.iter().zip(&right.store);
-        let at = octets.position(|(left, right)| left != right)?;
+        let at = first_difference(&left.store, &right.store)?;
         Some(format!(
             "slot {}, octet {}: {:02x} against {:02x}",
             at / SLOT_LENGTH,
@@ -124,6 +140,7 @@ fn name(word: usize) -> String {
 #[cfg(test)]
 mod tests {
     use super::*;
+    use nattveldi::raw::WORDS;
 
     fn reading() -> Reading {
         Reading {
@@ -189,6 +206,17 @@ mod tests {
             let (slot, octet) = (at / SLOT_LENGTH, at % SLOT_LENGTH);
             assert_eq!(said, format!("slot {slot}, octet {octet}: 07 against 06"));
         }
+    }
+
+    /// Nobody changes the length of a store.
+    #[test]
+    #[should_panic(expected = "lists of one length")]
+    fn stores_of_two_lengths_are_no_match() {
+        let changed = |length| Changed {
+            number: 0,
+            store: vec![7; length],
+        };
+        changes(&changed(SLOT_LENGTH), &changed(SLOT_LENGTH + 1));
     }
 
     #[test]

@@ -7,6 +7,8 @@ pub struct Counts {
     pub outcomes: BTreeMap<String, u64>,
     /// The numbers of the answers where there was one trouble alone.
     troubles: BTreeMap<&'static str, BTreeSet<u8>>,
+    /// How many cases had their answer from the paper.
+    pub known: u64,
 }
 
 impl Counts {
@@ -23,6 +25,22 @@ impl Counts {
 
     pub fn seen(&self, outcome: &str) -> u64 {
         self.outcomes.get(outcome).copied().unwrap_or(0)
+    }
+
+    /// The numbers of the outcomes that are such a start and a number.
+    pub fn numbers(&self, start: &str) -> Vec<u8> {
+        let number = |outcome: &String| outcome.strip_prefix(start)?.parse().ok();
+        let numbers: BTreeSet<u8> = self.outcomes.keys().filter_map(number).collect();
+        numbers.into_iter().collect()
+    }
+
+    /// So many tenths of the cases must have had their answer from the paper.
+    pub fn check_known(&self, tenths: u64, cases: u64, replay: &str) {
+        let known = self.known;
+        assert!(
+            10 * known >= tenths * cases,
+            "{replay}: {known} answers known of {cases}"
+        );
     }
 
     /// Each outcome must have come up as often as its floor says, which is that
@@ -59,7 +77,17 @@ mod tests {
         counts.add_troubles(&["bad"], 5);
         counts.add_troubles(&["harmless"], 0);
         counts.add_troubles(&["lost", "bad"], 5);
+        for outcome in ["list 7", "list 12", "list 7 rows", "list", "300", "18"] {
+            counts.add(outcome);
+        }
+        counts.known = 8;
         counts
+    }
+
+    #[test]
+    fn numbers() {
+        assert_eq!(counted().numbers("list "), [7, 12]);
+        assert_eq!(counted().numbers(""), [18]);
     }
 
     #[test]
@@ -67,6 +95,13 @@ mod tests {
         counted().check(&[("rare", 2)], 10, 10, "");
         counted().check(&[("rare", 4)], 20, 10, "");
         counted().check_troubles(["bad"].into_iter(), "");
+        counted().check_known(8, 10, "");
+    }
+
+    #[test]
+    #[should_panic(expected = "8 answers known of 11")]
+    fn too_little_is_known() {
+        counted().check_known(8, 11, "");
     }
 
     #[test]

@@ -57,6 +57,15 @@ impl Entry {
         Entry::of(&plan, random.array(), state)
     }
 
+    /// One that does not matter, sometimes with a given issuer.
+    pub fn neighbour(issuer: [u8; 8], random: &mut Random) -> Entry {
+        let mut entry = Entry::random(random);
+        if entry.kind != ROOT && random.once_in(8) {
+            entry.issuer = issuer;
+        }
+        entry
+    }
+
     pub fn image(&self) -> Slot {
         let mut slot = [0; SLOT_LENGTH];
         let mut put = |field: slot::Field, value: u64| field.put(&mut slot, value);

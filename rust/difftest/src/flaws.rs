@@ -2,11 +2,9 @@
 //! change nothing where they do not apply.
 
 use crate::entry::{Entry, WITHDRAWN};
-use crate::plan::{self, MOST_INTX, ROOT, TICKET};
+use crate::plan::{self, MOST_INTX, MOST_RECTANGLES, ROOT, TICKET};
 use crate::random::Random;
 use crate::troubles;
-
-const MOST_RECTANGLES: usize = 4;
 
 /// Flaws the certificate at a place among others.
 type Flaw = fn(&mut [Entry], usize, &mut Random);

@@ -4,13 +4,12 @@
 use crate::entry::{self, Entry, Slots, HELD};
 use crate::flaws;
 use crate::plan::{self, Plan, Rectangle, AUTHORITY, ROOT, TICKET};
+use crate::plan::{MOST_PERMISSIONS, MOST_RECTANGLES};
 use crate::random::Random;
 use crate::slot::SLOTS;
 
 /// The longest chain that is grown at once, from a root on.
 const LONGEST: usize = 12;
-const MOST_PERMISSIONS: usize = 16;
-const MOST_RECTANGLES: usize = 4;
 
 /// Mostly in any order, with empty slots between; else from the first slot on,
 /// each issuer before what is below it.

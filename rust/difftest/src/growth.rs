@@ -1,10 +1,8 @@
 //! Certificates below an issuer that a store has already.
 
 use crate::entry::Entry;
-use crate::plan::{Period, Permission, Plan, Rectangle, AUTHORITY, TICKET};
+use crate::plan::{Period, Permission, Plan, Rectangle, AUTHORITY, MOST_PERMISSIONS, TICKET};
 use crate::random::Random;
-
-const MOST_PERMISSIONS: usize = 16;
 
 /// A certificate that asks for no more than its issuer has.
 pub fn below(issuer: &Entry, random: &mut Random) -> Plan {

@@ -1,11 +1,9 @@
 //! Issuers for a certificate that is made up already.
 
 use crate::entry::{Entry, HELD};
-use crate::plan::{self, Plan, Rectangle, AUTHORITY, MOST_LATITUDE, MOST_LONGITUDE, ROOT};
+use crate::plan::{self, Plan, Rectangle, AUTHORITY, ROOT};
+use crate::plan::{MOST_LATITUDE, MOST_LONGITUDE, MOST_PERMISSIONS, MOST_RECTANGLES};
 use crate::random::Random;
-
-const MOST_PERMISSIONS: usize = 16;
-const MOST_RECTANGLES: usize = 4;
 
 /// A held issuer that allows all that a plan has, often no more than that.
 pub fn sound(plan: &Plan, random: &mut Random) -> Entry {

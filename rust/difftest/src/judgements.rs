@@ -4,7 +4,7 @@
 use nattveldi::raw::{self, octet_at, ACCEPTED, DECISION_LENGTH, QUESTIONS_LENGTH};
 use nattveldi::Situation;
 
-use crate::sides::Side;
+use crate::sides::{bound, referred, Side};
 
 /// What stands in a buffer before it is lent.
 const FILL: u8 = 0xa5;
@@ -139,10 +139,6 @@ fn bound_questions(questions: &nattveldi::Questions) -> [u8; QUESTIONS_LENGTH] {
     octets.0
 }
 
-fn bound(part: nattveldi::Part) -> (usize, usize) {
-    (part.start, part.length)
-}
-
 /// The octets that questions of the reference stand for.
 fn reference_questions(questions: &reference::Prepared) -> [u8; QUESTIONS_LENGTH] {
     let mut octets = Octets([0; QUESTIONS_LENGTH]);
@@ -159,10 +155,6 @@ fn reference_questions(questions: &reference::Prepared) -> [u8; QUESTIONS_LENGTH
         octets.put(at + octet_at::QUESTION_KEY, &question.key);
     }
     octets.0
-}
-
-fn referred(part: reference::Part) -> (usize, usize) {
-    (part.start, part.length)
 }
 
 /// The octets that a decision of the bindings stands for.

@@ -15,6 +15,8 @@
 //!   what stands, [`outcome`] is the paper's answer.
 //! - Signed messages: [`message`], with ids worked out in [`sha256`].
 //! - [`trouble`] makes sound requests bad; [`counts`] has what came up in a run.
+//! - [`soak`] makes requests of all kinds on a store that lives on; [`lines`]
+//!   writes one down.
 //! - [`sides`], [`changes`], [`lists`], [`withdrawals`], [`pages`] and
 //!   [`judgements`] ask a side, [`compare`] holds the sides against each other.
 
@@ -34,6 +36,7 @@ pub mod growth;
 pub mod hex;
 pub mod issuers;
 pub mod judgements;
+pub mod lines;
 pub mod lists;
 pub mod message;
 pub mod outcome;
@@ -47,6 +50,7 @@ pub mod seed;
 pub mod sha256;
 pub mod sides;
 pub mod slot;
+pub mod soak;
 pub mod spoil;
 pub mod standing;
 pub mod trouble;

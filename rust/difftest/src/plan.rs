@@ -19,7 +19,9 @@ pub const MOST_DURATION_COUNT: u16 = 8_191;
 /// The latest end of a period.
 pub const LATEST_END: u64 = 262_777_739_970;
 
-const SIGNATURE_LENGTH: usize = 66;
+pub const MOST_PERMISSIONS: usize = 16;
+pub const MOST_RECTANGLES: usize = 4;
+pub const SIGNATURE_LENGTH: usize = 66;
 
 /// A point of the curve: its type and its x coordinate.
 #[derive(Clone, Debug)]
@@ -145,7 +147,7 @@ fn point(random: &mut Random, types: &[u8]) -> Point {
 }
 
 fn permissions(random: &mut Random) -> Vec<Permission> {
-    let count = size(random, 16);
+    let count = size(random, MOST_PERMISSIONS);
     let mut permissions: Vec<Permission> = (0..count).map(|_| permission(random)).collect();
     if count > 1 && random.once_in(3) {
         let (from, to) = (random.below(count), random.below(count));
@@ -223,7 +225,7 @@ fn region(random: &mut Random) -> Option<Vec<Rectangle>> {
         0 => None,
         1 => Some(Vec::new()),
         _ => {
-            let count = 1 + random.below(4);
+            let count = 1 + random.below(MOST_RECTANGLES);
             Some((0..count).map(|_| rectangle(random)).collect())
         }
     }
@@ -282,7 +284,9 @@ mod tests {
             for permission in &plan.permissions {
                 assert!(permission.its_aid <= MOST_INTX && permission.ssp.len() <= 31);
             }
-            for [north, west, south, east] in plan.region.unwrap_or_default() {
+            let region = plan.region.unwrap_or_default();
+            assert!(region.len() <= 4);
+            for [north, west, south, east] in region {
                 assert!(-MOST_LATITUDE <= south && south < north && north <= MOST_LATITUDE);
                 assert!(-MOST_LONGITUDE <= west && west < east && east <= MOST_LONGITUDE);
             }

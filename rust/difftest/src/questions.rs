@@ -7,7 +7,7 @@ use crate::forest;
 use crate::lists::{List, Listed};
 use crate::outcome::{self, Contents};
 use crate::random::Random;
-use crate::slot::{SLOTS, SLOT_LENGTH, STORE_LENGTH};
+use crate::slot::{SLOTS, STORE_LENGTH};
 use crate::spoil;
 use crate::trouble::{self, Trouble};
 use crate::withdrawals::Withdrawal;
@@ -72,7 +72,7 @@ fn filled<'a>(slots: &'a mut Slots, random: &mut Random) -> &'a mut Entry {
 }
 
 /// Inside a period, at its ends, or one beyond them.
-fn second(entry: &Entry, random: &mut Random) -> u32 {
+pub fn second(entry: &Entry, random: &mut Random) -> u32 {
     let second = |number: u64| u32::try_from(number).unwrap_or(u32::MAX);
     let (start, end) = (entry.start, second(entry.end));
     let last = second(entry.end - 1);
@@ -150,11 +150,7 @@ fn damaged(made: &mut Made, random: &mut Random) {
     spoil::damage(&mut made.list.store, random);
 }
 
-/// A slot's last bit is set, which is padding.
 fn bad(made: &mut Made, random: &mut Random) {
     made.contents = Some(Err(2));
-    let end = (1 + random.below(SLOTS)) * SLOT_LENGTH;
-    if let Some(last) = made.list.store.get_mut(end - 1) {
-        *last |= 1;
-    }
+    spoil::set_padding(&mut made.list.store, random);
 }

@@ -95,7 +95,7 @@ impl Scene {
         let mut entries: Vec<Entry> = self.issuer.iter().cloned().collect();
         entries.extend(self.copy.map(|state| self.copy(id, state, random)));
         while entries.len() < self.filled {
-            entries.push(self.neighbour(random));
+            entries.push(Entry::neighbour(self.plan.issuer, random));
         }
         entry::in_any_slots(entries, random)
     }
@@ -107,15 +107,6 @@ impl Scene {
             0 => Entry { id, state, ..other },
             _ => Entry::of(&self.plan, id, state),
         }
-    }
-
-    /// An entry that does not matter, sometimes with the same issuer.
-    fn neighbour(&self, random: &mut Random) -> Entry {
-        let mut entry = Entry::random(random);
-        if entry.kind != ROOT && random.once_in(8) {
-            entry.issuer = self.plan.issuer;
-        }
-        entry
     }
 }
 

@@ -35,7 +35,7 @@ fn variable(name: &str) -> Option<u64> {
     )
 }
 
-fn from_clock() -> u64 {
+pub fn from_clock() -> u64 {
     let now = SystemTime::now().duration_since(UNIX_EPOCH);
     now.map_or(1, |since| since.as_nanos() as u64)
 }

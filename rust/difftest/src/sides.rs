@@ -16,6 +16,8 @@ pub enum Side {
 
 impl Side {
     pub const ALL: [Side; 3] = [Side::Library, Side::Bindings, Side::Reference];
+    /// Those that are held against the reference.
+    pub const PROVED: [Side; 2] = [Side::Library, Side::Bindings];
 }
 
 /// The answer to `read`. The words are all zero in a refusal.
@@ -125,7 +127,7 @@ fn bindings_words(fields: &nattveldi::Certificate) -> [u32; WORDS] {
     words.0
 }
 
-fn bound(part: nattveldi::Part) -> (usize, usize) {
+pub(crate) fn bound(part: nattveldi::Part) -> (usize, usize) {
     (part.start, part.length)
 }
 
@@ -160,7 +162,7 @@ fn reference_words(fields: &reference::Certificate) -> [u32; WORDS] {
     words.0
 }
 
-fn referred(part: reference::Part) -> (usize, usize) {
+pub(crate) fn referred(part: reference::Part) -> (usize, usize) {
     (part.start, part.length)
 }
 

@@ -1,4 +1,4 @@
-//! Stores that are spoilt: damaged, or of another length.
+//! Stores that are spoilt: damaged, against a rule, or of another length.
 
 use crate::random::Random;
 use crate::slot::{SLOTS, SLOT_LENGTH, STORE_LENGTH};
@@ -15,6 +15,14 @@ pub fn damage(store: &mut [u8], random: &mut Random) {
         let (from, to) = (random.below(SLOTS), random.below(SLOTS));
         let from = from * SLOT_LENGTH;
         store.copy_within(from..from + SLOT_LENGTH, to * SLOT_LENGTH);
+    }
+}
+
+/// A slot's last bit is set, which is padding. A short store may lack the slot.
+pub fn set_padding(store: &mut [u8], random: &mut Random) {
+    let end = (1 + random.below(SLOTS)) * SLOT_LENGTH;
+    if let Some(last) = store.get_mut(end - 1) {
+        *last |= 1;
     }
 }
 

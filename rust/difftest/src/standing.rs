@@ -54,6 +54,16 @@ pub fn climb(slots: &Slots, certificate: &Entry, when: When, count: usize) -> Re
     climb(slots, issuer, when, count + 1)
 }
 
+/// The certificates from one upward, itself first, as far as issuers are
+/// stored; without end in a ring.
+pub fn upward<'a>(slots: &'a Slots, certificate: &'a Entry) -> impl Iterator<Item = &'a Entry> {
+    let above = |entry: &&'a Entry| match entry.kind {
+        ROOT => None,
+        _ => expect::find(slots, entry.issuer),
+    };
+    std::iter::successors(Some(certificate), above)
+}
+
 /// "Edges belong to it"; no rectangles are everywhere.
 fn holds(certificate: &Entry, (latitude, longitude): Place) -> bool {
     let inside = |&[north, west, south, east]: &Rectangle| {

@@ -193,7 +193,8 @@ fn bad_verdict(scene: &mut Scene, random: &mut Random) {
     scene.verdict = random.pick(&[0, 2, 255, any]);
 }
 
-fn damaged(plan: &Plan, change: &mut Change, random: &mut Random) {
+/// Another certificate, or the same with a fault or with damaged octets.
+pub fn damaged(plan: &Plan, change: &mut Change, random: &mut Random) {
     match random.below(8) {
         0 => change.certificate = generate::made(random).octets,
         1 => {

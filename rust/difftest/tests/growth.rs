@@ -11,7 +11,7 @@ use difftest::plan::{Plan, ROOT};
 use difftest::random::Random;
 use difftest::slot::{SLOTS, STORE_LENGTH};
 use difftest::withdrawals::Withdrawal;
-use difftest::{compare, expect, growth, scene, seed};
+use difftest::{compare, expect, growth, scene, seed, standing};
 
 const STORES: u64 = 40;
 const STEPS: usize = 150;
@@ -107,8 +107,7 @@ impl Grown {
 
     /// How many certificates stand above an entry, itself among them.
     fn depth(&self, entry: &Entry) -> usize {
-        let above = |id| self.entries().into_iter().find(|e| e.id == id);
-        std::iter::successors(Some(entry), |entry| above(entry.issuer)).count()
+        standing::upward(&self.slots, entry).count()
     }
 }
 

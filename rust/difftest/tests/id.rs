@@ -1,12 +1,10 @@
 //! The id: the last 8 octets of SHA-256 with the signature's point type as 0.
 
 use difftest::draft::Draft;
-use difftest::plan::Plan;
+use difftest::plan::{Plan, SIGNATURE_LENGTH};
 use difftest::random::Random;
 use difftest::seed;
 use difftest::sides::{self, Side};
-
-const SIGNATURE_LENGTH: usize = 66;
 
 fn id(side: Side, certificate: &[u8]) -> [u8; 8] {
     let answer = sides::id(side, certificate);

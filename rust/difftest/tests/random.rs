@@ -1,7 +1,6 @@
 //! Random and damaged certificates, library against reference.
 
-use std::collections::{BTreeMap, BTreeSet};
-
+use difftest::counts::Counts;
 use difftest::generate::{self, Made, VALID};
 use difftest::random::Random;
 use difftest::sides::{self, Side};
@@ -11,20 +10,6 @@ const CASES: u64 = 100_000;
 const LONGEST: usize = 1_100;
 /// What `read` and `id` answer when their buffers are long enough.
 const NUMBERS: [u8; 5] = [0, 3, 4, 5, 6];
-
-/// How often each number was the answer, in all and by how a case was made.
-#[derive(Default)]
-struct Tally {
-    numbers: BTreeMap<u8, u64>,
-    ways: BTreeMap<&'static str, BTreeSet<u8>>,
-}
-
-impl Tally {
-    fn add(&mut self, how: &'static str, number: u8) {
-        *self.numbers.entry(number).or_default() += 1;
-        self.ways.entry(how).or_default().insert(number);
-    }
-}
 
 fn check(made: &Made, replay: &str) -> u8 {
     let Made {
@@ -45,39 +30,27 @@ fn check(made: &Made, replay: &str) -> u8 {
 fn certificates() {
     let seed = seed::take("random certificates");
     let cases = seed::cases(CASES);
-    let mut tally = Tally::default();
+    let mut counts = Counts::default();
     for case in 0..cases {
         let made = generate::made(&mut Random::for_case(seed, case));
         let number = check(&made, &format!("DIFFTEST_SEED={seed}, case {case}"));
-        tally.add(made.how, number);
+        counts.add(number.to_string());
+        counts.add_troubles(&[made.how], number);
     }
     seed::tell(&format!(
         "random certificates: {cases} cases, numbers {:?}",
-        tally.numbers
+        counts.outcomes
     ));
-    let seen: Vec<u8> = tally.numbers.keys().copied().collect();
-    assert_eq!(seen, NUMBERS, "DIFFTEST_SEED={seed}: the numbers seen");
-    let accepted = tally.numbers[&0];
-    assert!(
-        accepted * 5 >= cases,
-        "DIFFTEST_SEED={seed}: {accepted} of {cases} accepted"
-    );
-    check_ways(&tally, seed);
+    check_counts(&counts, cases, &format!("DIFFTEST_SEED={seed}"));
 }
 
-/// Every way of making a case was taken, and those that break a rule led to a
-/// refusal.
-fn check_ways(tally: &Tally, seed: u64) {
-    for how in generate::ways() {
-        let numbers = tally.ways.get(how);
-        let numbers = numbers.unwrap_or_else(|| panic!("DIFFTEST_SEED={seed}: no case of {how}"));
-        let refused = numbers.iter().any(|&number| number != 0);
-        assert_eq!(
-            refused,
-            how != VALID,
-            "DIFFTEST_SEED={seed}: {how} answered {numbers:?}"
-        );
-    }
+/// Every number came up, every way of making a case was taken, and those that
+/// break a rule led to a refusal; that a valid one is read is checked above.
+fn check_counts(counts: &Counts, cases: u64, replay: &str) {
+    assert_eq!(counts.numbers(""), NUMBERS, "{replay}: the numbers seen");
+    counts.check(&[("0", cases / 5)], cases, cases, replay);
+    let breaking = generate::ways().into_iter().filter(|&how| how != VALID);
+    counts.check_troubles(breaking, replay);
 }
 
 /// Random octets of every length, once as they are and once behind the head

@@ -37,8 +37,9 @@
 //! ```
 //!
 //! The archive is made by `rt staticlib nattveldi_c` in the repository's root.
-//! If it stands in another folder than `target/staticlib` there, the
-//! environment variable `NATTVELDI_LIB_DIR` names that folder.
+//! The build looks for it in the folder that the environment variable
+//! `NATTVELDI_LIB_DIR` names or, without that, in `target/staticlib` there, and
+//! then where pkg-config knows an installed one of the same version.
 
 #![deny(unsafe_code)]
 #![warn(missing_docs)]
@@ -61,6 +62,14 @@ pub use raw::STORE_LENGTH;
 pub use refusal::Refusal;
 pub use store::{admit, empty_store, install};
 pub use withdrawal::{list, page, withdraw};
+
+/// The version of the library, that of the C header: `NATTVELDI_VERSION` in
+/// `include/nattveldi.h`, the only place where it is given.
+///
+/// ```
+/// assert_eq!(nattveldi::VERSION.split('.').count(), 3);
+/// ```
+pub const VERSION: &str = env!("NATTVELDI_VERSION");
 
 /// Reads a certificate.
 ///

@@ -20,7 +20,7 @@ stack
 Calls each operation of the proved library through its C function, on inputs that
 take as much as inputs can and on random ones, and prints how many octets of the
 stack the deepest call took, with some hundred of this program's own. Build it
-with --release.
+with --release. --version prints the library's version, --help this.
 ";
 
 /// The order of the table.
@@ -32,6 +32,10 @@ fn main() -> ExitCode {
     let words: Vec<String> = env::args().skip(1).collect();
     if words == ["--help"] {
         print!("{HELP}");
+        return ExitCode::SUCCESS;
+    }
+    if words == ["--version"] {
+        println!("stack {}", nattveldi::VERSION);
         return ExitCode::SUCCESS;
     }
     if !words.is_empty() {
@@ -95,7 +99,7 @@ mod tests {
             };
             let octets = of(&worst).expect("a row of each operation");
             assert!(octets < LIMIT, "{operation}: {octets}");
-            let other = of(&others).unwrap_or(0);
+            let other = of(&others).expect("a random input of each operation");
             assert!(other <= octets + FRAMES, "{operation}: {other}, {octets}");
         }
     }

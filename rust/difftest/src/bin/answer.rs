@@ -13,7 +13,8 @@ answer [--reference]
 
 Takes request lines on standard input, in the format of vectors/README.md, and
 writes one answer line for each to standard output: the answer of the proved
-library, or with --reference that of the independent reference.
+library, or with --reference that of the independent reference. --version prints
+the library's version, --help this.
 
   read CERT    NUMBER, and where it is 0 also KIND ISSUER NAME PARITY KEY
                ASSURANCE START END RECTANGLES PERMISSIONS SIGNATURE_AT
@@ -50,6 +51,7 @@ fn main() -> ExitCode {
         [] => answer_all(Side::Library),
         ["--reference"] => answer_all(Side::Reference),
         ["--help"] => io::stdout().write_all(HELP.as_bytes()),
+        ["--version"] => writeln!(io::stdout(), "answer {}", nattveldi::VERSION),
         _ => {
             eprintln!("answer: usage is answer [--reference]; try `answer --help`");
             return ExitCode::from(2);

@@ -2,17 +2,15 @@
 
 use nattveldi::raw::{octet_at, QUESTIONS_LENGTH};
 
-use super::{numbers, same};
+use super::{first_difference, numbers, same};
 use crate::judgements::{Judged, Judgement, Verdicts};
 use crate::sides::Side;
-
-const PROVED: [Side; 2] = [Side::Library, Side::Bindings];
 
 /// Asks all sides for a message's questions. Answers what they agree on, or
 /// says where they differ.
 pub fn prepare(judgement: &Judgement) -> Result<Judged, String> {
     let answer = judgement.prepare(Side::Reference);
-    for side in PROVED {
+    for side in Side::PROVED {
         same(
             side,
             "prepare",
@@ -25,7 +23,7 @@ pub fn prepare(judgement: &Judgement) -> Result<Judged, String> {
 /// Asks all sides to decide a message.
 pub fn decide(judgement: &Judgement, verdicts: Verdicts) -> Result<Judged, String> {
     let answer = judgement.decide(Side::Reference, verdicts);
-    for side in PROVED {
+    for side in Side::PROVED {
         let given = judgement.decide(side, verdicts);
         same(side, "decide", decisions(&given, &answer))?;
     }
@@ -45,8 +43,7 @@ pub fn decisions(left: &Judged, right: &Judged) -> Option<String> {
 /// The first octet in which two buffers of one length differ.
 fn octets(left: &Judged, right: &Judged, field: fn(usize) -> &'static str) -> Option<String> {
     let (left, right) = (&left.buffer, &right.buffer);
-    assert_eq!(left.len(), right.len(), "buffers");
-    let at = (0..left.len()).find(|&at| left[at] != right[at])?;
+    let at = first_difference(left, right)?;
     Some(format!(
         "{}, octet {at} of the buffer: {:02x} against {:02x}",
         field(at),

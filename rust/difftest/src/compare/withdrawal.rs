@@ -1,19 +1,17 @@
 //! The sides held against each other on a withdrawal: list, store, page.
 
-use super::{changes, numbers, same};
+use super::{changes, numbers, octets, same};
 use crate::changes::Changed;
 use crate::lists::{List, Listed};
 use crate::pages::{self, Paged};
 use crate::sides::Side;
 use crate::withdrawals::Withdrawal;
 
-const PROVED: [Side; 2] = [Side::Library, Side::Bindings];
-
 /// Asks all sides for a list. Answers what they agree on, or says where they
 /// differ.
 pub fn list(list: &List) -> Result<Listed, String> {
     let answer = list.ask(Side::Reference);
-    for side in PROVED {
+    for side in Side::PROVED {
         same(side, "list", lists(&list.ask(side), &answer))?;
     }
     Ok(answer)
@@ -22,7 +20,7 @@ pub fn list(list: &List) -> Result<Listed, String> {
 /// Asks all sides to withdraw.
 pub fn withdraw(withdrawal: &Withdrawal) -> Result<Changed, String> {
     let answer = withdrawal.ask(Side::Reference);
-    for side in PROVED {
+    for side in Side::PROVED {
         same(side, "withdraw", changes(&withdrawal.ask(side), &answer))?;
     }
     Ok(answer)
@@ -31,7 +29,7 @@ pub fn withdraw(withdrawal: &Withdrawal) -> Result<Changed, String> {
 /// Asks all sides for a page.
 pub fn page(input: &[u8]) -> Result<Paged, String> {
     let answer = pages::ask(Side::Reference, input);
-    for side in PROVED {
+    for side in Side::PROVED {
         same(side, "page", texts(&pages::ask(side, input), &answer))?;
     }
     Ok(answer)
@@ -50,16 +48,6 @@ pub fn texts(left: &Paged, right: &Paged) -> Option<String> {
         (left.length != right.length)
             .then(|| format!("length {} against {}", left.length, right.length))
     })
-}
-
-/// The first octet in which two buffers of one length differ.
-fn octets(what: &str, left: &[u8], right: &[u8]) -> Option<String> {
-    assert_eq!(left.len(), right.len(), "{what}");
-    let at = (0..left.len()).find(|&at| left[at] != right[at])?;
-    Some(format!(
-        "{what}, octet {at}: {:02x} against {:02x}",
-        left[at], right[at]
-    ))
 }
 
 #[cfg(test)]

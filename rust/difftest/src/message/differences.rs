@@ -3,14 +3,13 @@
 
 use crate::entry::Entry;
 use crate::plan::{self, AUTHORITY, LATEST_END, ROOT, TICKET};
+use crate::plan::{MOST_PERMISSIONS, MOST_RECTANGLES};
 use crate::random::Random;
 use crate::troubles;
 
 pub type Difference = fn(&mut Entry, &mut Random);
 
 const MOST_NAME: usize = 32;
-const MOST_RECTANGLES: usize = 4;
-const MOST_PERMISSIONS: usize = 16;
 
 /// Every difference and its name.
 pub const ALL: [(&str, Difference); 15] = [

@@ -12,11 +12,9 @@ use crate::entry::{Entry, Slots, WITHDRAWN};
 use crate::expect;
 use crate::judgements::{Judgement, Verdicts};
 use crate::outcome::Contents;
-use crate::plan::{MOST_LATITUDE, MOST_LONGITUDE, TICKET};
+use crate::plan::{MOST_LATITUDE, MOST_LONGITUDE, SIGNATURE_LENGTH, TICKET};
 use crate::slot::STORE_LENGTH;
 use crate::standing::{self, When};
-
-const SIGNATURE_LENGTH: usize = 66;
 
 /// What is known of a request. What was spoilt may not be.
 #[derive(Clone, Debug)]

@@ -5,11 +5,10 @@ use std::ops::Range;
 
 use super::{Location, Message, Signer};
 use crate::draft::{self, Draft, Element, Item};
-use crate::plan::Point;
+use crate::plan::{Point, SIGNATURE_LENGTH};
 use crate::wire::Wire;
 
 pub const SIGNER: u8 = 128;
-const SIGNATURE_LENGTH: usize = 66;
 
 #[derive(Clone, Debug)]
 pub struct Layout {

@@ -12,7 +12,6 @@ use crate::draft::Draft;
 use crate::entry::{self, Entry, Slots, HELD};
 use crate::forest;
 use crate::judgements::{Judgement, Verdicts};
-use crate::plan::ROOT;
 use crate::random::Random;
 use crate::sha256;
 use crate::slot::SLOTS;
@@ -165,7 +164,7 @@ impl Scene {
         let mut entries = self.chain.above.clone();
         entries.extend(self.stored.map(|state| self.stored(signer, state, random)));
         while entries.len() < self.filled {
-            entries.push(self.neighbour(random));
+            entries.push(Entry::neighbour(self.chain.signer.issuer, random));
         }
         entry::in_any_slots(entries, random)
     }
@@ -179,15 +178,6 @@ impl Scene {
             difference(&mut stored, random);
         }
         stored
-    }
-
-    /// An entry that does not matter, sometimes with the same issuer.
-    fn neighbour(&self, random: &mut Random) -> Entry {
-        let mut entry = Entry::random(random);
-        if entry.kind != ROOT && random.once_in(8) {
-            entry.issuer = self.chain.signer.issuer;
-        }
-        entry
     }
 
     fn message(&self, id: [u8; 8], random: &mut Random) -> Message {

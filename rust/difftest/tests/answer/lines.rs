@@ -119,4 +119,6 @@ fn usage() {
     }
     let help = run(&["--help"], b"");
     assert!(help.status.success() && help.stdout.starts_with(b"answer [--reference]\n"));
+    let version = format!("answer {}", nattveldi::VERSION);
+    assert_eq!(lines(&["--version"], b""), [version]);
 }

@@ -1,16 +1,28 @@
 //! The C header against the bindings, and as C++.
 
 use difftest::seed::tell;
-use nattveldi::raw::{self, octet_at};
+use nattveldi::raw::{self, octet_at, word_at};
 
 use crate::programs::{compiler, root, target, WARNINGS};
+
+fn header() -> String {
+    let path = root().join("include/nattveldi.h");
+    std::fs::read_to_string(path).expect("the header")
+}
+
+/// The header has a constant of an `enum` under its name and value.
+fn check_constant(header: &str, name: &str, value: usize) {
+    let line = format!("    NATTVELDI_{name} = {value}");
+    let ends = [",", " ", "\n"].map(|end| header.contains(&format!("{line}{end}")));
+    assert!(ends.contains(&true), "the header lacks {line}");
+}
 
 /// The header has the bindings' refusals under their names and numbers, and
 /// the lengths. 15 has a longer name, "signature" is a field; 9 a shorter one.
 #[test]
 fn has_the_numbers() {
-    let path = root().join("include/nattveldi.h");
-    let header = std::fs::read_to_string(path).expect("the header");
+    let header = header();
+    check_constant(&header, "ACCEPTED", raw::ACCEPTED.into());
     for refusal in nattveldi::Refusal::ALL {
         let name = match refusal {
             nattveldi::Refusal::Signature => "bad signature",
@@ -18,9 +30,7 @@ fn has_the_numbers() {
             _ => refusal.name(),
         };
         let name = name.to_uppercase().replace(' ', "_");
-        let line = format!("    NATTVELDI_{name} = {}", refusal.number());
-        let ends = [",", " "].map(|end| header.contains(&format!("{line}{end}")));
-        assert!(ends.contains(&true), "the header lacks {line}");
+        check_constant(&header, &name, refusal.number().into());
     }
     for (name, length) in [
         ("FIELDS", raw::FIELDS_LENGTH),
@@ -38,8 +48,7 @@ fn has_the_numbers() {
 /// Where the parts of questions and decision stand.
 #[test]
 fn has_the_offsets() {
-    let path = root().join("include/nattveldi.h");
-    let header = std::fs::read_to_string(path).expect("the header");
+    let header = header();
     for (name, offset) in [
         ("MESSAGE_QUESTION", octet_at::MESSAGE_QUESTION),
         ("CERTIFICATE_QUESTION", octet_at::CERTIFICATE_QUESTION),
@@ -55,9 +64,40 @@ fn has_the_offsets() {
             octet_at::DECISION_GENERATION_TIME,
         ),
     ] {
-        let line = format!("    NATTVELDI_{name} = {offset}");
-        let ends = [",", " ", "\n"].map(|end| header.contains(&format!("{line}{end}")));
-        assert!(ends.contains(&true), "the header lacks {line}");
+        check_constant(&header, name, offset);
+    }
+}
+
+/// Where the fields of a certificate stand.
+#[test]
+fn has_the_words() {
+    let header = header();
+    for (name, word) in [
+        ("SIGNER", word_at::SIGNER),
+        ("ISSUER", word_at::ISSUER),
+        ("KIND", word_at::KIND),
+        ("NAME", word_at::NAME),
+        ("KEY_TYPE", word_at::KEY_TYPE),
+        ("KEY", word_at::KEY),
+        ("ENCRYPTION_KEY_TYPE", word_at::ENCRYPTION_KEY_TYPE),
+        ("ENCRYPTION_KEY", word_at::ENCRYPTION_KEY),
+        ("HAS_ASSURANCE", word_at::HAS_ASSURANCE),
+        ("ASSURANCE", word_at::ASSURANCE),
+        ("PERIOD_FORM", word_at::PERIOD_FORM),
+        ("START", word_at::START),
+        ("END", word_at::END),
+        ("HAS_REGION", word_at::HAS_REGION),
+        ("RECTANGLE_COUNT", word_at::RECTANGLE_COUNT),
+        ("RECTANGLES", word_at::RECTANGLES),
+        ("PERMISSION_COUNT", word_at::PERMISSION_COUNT),
+        ("PERMISSIONS", word_at::PERMISSIONS),
+        ("SSP_STARTS", word_at::SSP_STARTS),
+        ("SSP_LENGTHS", word_at::SSP_LENGTHS),
+        ("SIGNED", word_at::SIGNED),
+        ("SIGNATURE", word_at::SIGNATURE),
+        ("SIGNATURE_TYPE", word_at::SIGNATURE_TYPE),
+    ] {
+        check_constant(&header, name, word);
     }
 }
 

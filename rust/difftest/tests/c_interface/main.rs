@@ -3,6 +3,8 @@
 
 mod certificates;
 mod header;
+mod installation;
 mod messages;
+mod pkg_config;
 mod programs;
 mod withdrawal;

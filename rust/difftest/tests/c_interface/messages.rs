@@ -1,32 +1,35 @@
 //! The example that judges messages.
 
-use std::fs;
+use std::path::Path;
 use std::process::Command;
 
-use crate::programs::{build, file, root, run_with};
+use crate::programs::{build, file, run_with, text};
 
 /// Between the messages' times and the expiration of the second.
 const NOW: &str = "694700001000000";
 
+const FILES: [&str; 4] = [
+    "root.hex",
+    "authority.hex",
+    "message-by-id.hex",
+    "message-with-certificate.hex",
+];
+
 /// The expected text was worked out by hand from the comments of the example
 /// files; the signer's id is from `sha256sum` over its certificate with the
 /// signature's point type as 0.
+pub fn judges_the_example(program: &Path, test: &str) {
+    let [anchor, authority, by_id, bringing] = FILES.map(|name| file(test, name));
+    let words = [NOW, &anchor, &authority, &by_id, &bringing, &by_id];
+    let all = run_with(program, &words);
+    assert_eq!(all, (Some(1), text("decide.expected")));
+}
+
 #[test]
 fn example_judges_messages() {
     let program = build("decide");
-    let expected = fs::read_to_string(root().join("examples/decide.expected")).expect("a text");
-    let [anchor, authority, by_id, bringing] = [
-        "root.hex",
-        "authority.hex",
-        "message-by-id.hex",
-        "message-with-certificate.hex",
-    ]
-    .map(|name| file("decide", name));
-    let all = run_with(
-        &program,
-        &[NOW, &anchor, &authority, &by_id, &bringing, &by_id],
-    );
-    assert_eq!(all, (Some(1), expected));
+    judges_the_example(&program, "decide");
+    let [anchor, authority, by_id, bringing] = FILES.map(|name| file("decide", name));
     let (status, text) = run_with(&program, &[NOW, &anchor, &authority, &bringing, &by_id]);
     assert_eq!(status, Some(0), "{text}");
     let old = run_with(

@@ -7,11 +7,15 @@ use std::process::{Command, Output, Stdio};
 
 pub const WARNINGS: [&str; 4] = ["-Wall", "-Wextra", "-Werror", "-pedantic"];
 
+/// The text of a file beside the examples.
+pub fn text(name: &str) -> String {
+    let path = root().join("examples").join(name);
+    std::fs::read_to_string(&path).unwrap_or_else(|error| panic!("{}: {error}", path.display()))
+}
+
 /// The octets of an example certificate.
 pub fn example(name: &str) -> Vec<u8> {
-    let path = root().join("examples").join(name);
-    let text = std::fs::read_to_string(&path)
-        .unwrap_or_else(|error| panic!("{}: {error}", path.display()));
+    let text = text(name);
     let codes = text
         .lines()
         .map(|line| line.split('#').next().unwrap_or_default());
@@ -23,7 +27,7 @@ pub fn root() -> PathBuf {
     Path::new(env!("CARGO_MANIFEST_DIR")).join("../..")
 }
 
-fn archive() -> PathBuf {
+pub fn archive() -> PathBuf {
     let folder = env::var_os("NATTVELDI_LIB_DIR").map(PathBuf::from);
     folder
         .unwrap_or_else(|| root().join("target/staticlib"))
@@ -39,17 +43,23 @@ pub fn compiler(variable: &str, usual: &str) -> Command {
     Command::new(env::var_os(variable).unwrap_or_else(|| usual.into()))
 }
 
-/// Compiles and links an example.
+/// Compiles an example and links it with the archive.
 pub fn build(name: &str) -> PathBuf {
-    let program = target(&format!("{name}-example"));
+    let include = format!("-I{}", root().join("include").display());
+    let archive = archive().to_string_lossy().into_owned();
+    compile(name, "example", &[include, archive])
+}
+
+/// Compiles an example with the flags that find header and archive. Each use
+/// has a program of its own, so that tests can run beside each other.
+pub fn compile(name: &str, used_as: &str, flags: &[String]) -> PathBuf {
+    let program = target(&format!("{name}-{used_as}"));
     let mut compiler = compiler("CC", "cc");
     compiler
         .args(WARNINGS)
-        .args(["-std=c99", "-O2", "-I"])
-        .arg(root().join("include"));
-    compiler
+        .args(["-std=c99", "-O2"])
         .arg(root().join(format!("examples/{name}.c")))
-        .arg(archive())
+        .args(flags)
         .arg("-o")
         .arg(&program);
     let output = compiler

@@ -7,7 +7,7 @@ use difftest::message::scene::Made;
 use difftest::message::times::SECOND;
 use difftest::plan::{ROOT, TICKET};
 use difftest::slot::SLOTS;
-use difftest::standing::{climb, When};
+use difftest::standing::{climb, upward, When};
 
 /// The reason for a number from 7 on.
 pub fn of(made: &Made, slots: &Slots, number: u8) -> String {
@@ -99,12 +99,7 @@ fn difference(made: &Made, slots: &Slots) -> &'static str {
 /// How long the chain is that is too long.
 fn too_long(made: &Made, slots: &Slots) -> &'static str {
     let signer = signer(slots, &made.facts).expect("a signer");
-    let above = |entry: &&Entry| match entry.kind {
-        ROOT => None,
-        _ => find(slots, entry.issuer),
-    };
-    let chain = std::iter::successors(Some(signer), above);
-    match chain.take(SLOTS + 2).count() {
+    match upward(slots, signer).take(SLOTS + 2).count() {
         ..=8 => "the eighth without its issuer",
         9 => "a chain of 9",
         10..=64 => "a longer chain",

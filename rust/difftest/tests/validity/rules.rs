@@ -183,7 +183,7 @@ fn free_fields() {
             false,
         ),
     ];
-    for bit in slot::ID.at..slot::ID.at + slot::ID.width {
+    for bit in 0..slot::ID.width {
         let slot = with(&small(), &[(slot::ID, 1 << bit)]);
         cases.push((format!("id with bit {bit}"), slot, true));
     }

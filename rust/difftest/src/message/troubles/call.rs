@@ -1,10 +1,9 @@
 //! Arguments and stores that are refused before the message is looked at.
 
 use super::super::places;
-use super::super::scene::{Made, Scene};
+use super::super::scene::Scene;
 use super::super::times::MOST_AGE;
 use crate::random::Random;
-use crate::slot::{SLOTS, SLOT_LENGTH};
 use crate::spoil;
 
 /// Whether the message has a location or not.
@@ -38,14 +37,8 @@ pub fn damaged_store(scene: &mut Scene, _: &mut Random) {
 }
 
 pub fn bad_store(scene: &mut Scene, _: &mut Random) {
-    scene.spoils.push(set_padding);
-}
-
-/// A slot's last bit is set, which is padding.
-fn set_padding(made: &mut Made, random: &mut Random) {
-    made.facts.contents = Some(Err(2));
-    let end = (1 + random.below(SLOTS)) * SLOT_LENGTH;
-    if let Some(last) = made.judgement.store.get_mut(end - 1) {
-        *last |= 1;
-    }
+    scene.spoils.push(|made, random| {
+        made.facts.contents = Some(Err(2));
+        spoil::set_padding(&mut made.judgement.store, random);
+    });
 }

@@ -11,6 +11,8 @@ id. Without FILE, or with -, the certificate comes from standard input.
   --hex    the input is hex text; white space does not count, nor does what
            stands between a # and the end of its line
   --help   print this
+  --version
+           print the library's version
   --       what follows is a file, even if it starts with -
 
 A second counts from the start of 2004 (TAI). The date beside it counts every
@@ -24,6 +26,7 @@ means are printed), 2 bad usage or an input that cannot be read.
 #[derive(Debug, PartialEq)]
 pub enum Order {
     Help,
+    Version,
     Read(Arguments),
 }
 
@@ -42,6 +45,7 @@ pub fn parse(words: impl Iterator<Item = OsString>) -> Result<Order, String> {
     for word in words {
         match word.to_str() {
             Some("--help") if options => return Ok(Order::Help),
+            Some("--version") if options => return Ok(Order::Version),
             Some("--hex") if options => hex = true,
             Some("--") if options => options = false,
             _ if options && is_option(&word) => {
@@ -88,6 +92,8 @@ mod tests {
         assert_eq!(parsed(&["--", "--hex"]), read(Some("--hex"), false));
         assert_eq!(parsed(&["--", "-"]), read(Some("-"), false));
         assert_eq!(parsed(&["a", "--help"]), Ok(Order::Help));
+        assert_eq!(parsed(&["--version", "a"]), Ok(Order::Version));
+        assert_eq!(parsed(&["--", "--version"]), read(Some("--version"), false));
     }
 
     #[test]

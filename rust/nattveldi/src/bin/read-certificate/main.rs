@@ -20,6 +20,10 @@ const FAILED: u8 = 2;
 fn main() -> ExitCode {
     match arguments::parse(env::args_os().skip(1)) {
         Ok(Order::Help) => write_out(HELP, ExitCode::SUCCESS),
+        Ok(Order::Version) => write_out(
+            &format!("read-certificate {}\n", nattveldi::VERSION),
+            ExitCode::SUCCESS,
+        ),
         Ok(Order::Read(arguments)) => run(&arguments),
         Err(fault) => fail(&format!("{fault}\nTry `read-certificate --help`.")),
     }
