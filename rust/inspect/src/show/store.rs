@@ -1,0 +1,71 @@
+//! A store, slot by slot.
+
+use super::{Lines, Page};
+use crate::store::layout::SLOTS;
+use crate::store::{first_broken, Slots, WITHDRAWN};
+use crate::text::time;
+use crate::verdict;
+
+const BAD_CALL: u8 = 1;
+const BAD_STORE: u8 = 2;
+
+/// `at` is a second for which the library is asked what stands.
+pub fn store(source: String, given: &[u8], at: Option<u32>) -> Page {
+    let number = verdict::store(given);
+    let mut lines = Lines::about(&[format!("store: {source}")]);
+    match number {
+        0 => lines.label("verdict", "a valid store"),
+        _ => lines.label("verdict", &verdict::sentence(number)),
+    }
+    if number == BAD_CALL {
+        return lines.page(number);
+    }
+    lines.broken(given, number);
+    let slots = Slots::of(given);
+    let counts = format!("{} filled, {} empty", slots.count(), SLOTS - slots.count());
+    lines.label("slots", &counts);
+    if let Some(second) = at {
+        lines.label(
+            "standing",
+            &format!("asked for {}", time::second(second.into())),
+        );
+    }
+    lines.plain("");
+    lines.plain("octet.bit  bits  field");
+    for (slot, record) in slots.iter() {
+        let stands = match (at, number) {
+            (Some(second), 0) => standing(given, slot, record.id, second),
+            _ => "",
+        };
+        let is_withdrawn = record.state == WITHDRAWN;
+        lines.slot(slot, record, if is_withdrawn { "" } else { stands });
+    }
+    lines.page(number)
+}
+
+impl Lines {
+    /// The rule that a bad store breaks first, by this tool's own reading.
+    fn broken(&mut self, given: &[u8], library: u8) {
+        let broken = first_broken(given);
+        let own = if broken.is_some() { BAD_STORE } else { 0 };
+        if let Some(unfit) = verdict::unfit("this tool's own reading", library, own) {
+            self.label("fault", &unfit);
+            return;
+        }
+        if let Some(broken) = broken {
+            let (slot, rule) = (broken.slot, &broken.rule);
+            let (offset, bit) = (broken.offset(), broken.bit % 8);
+            let words = format!("at octet {offset}, bit {bit}, of slot {slot}: {rule}");
+            self.label("fault", &words);
+            self.label("", "(place and reason: this tool's own reading)");
+        }
+    }
+}
+
+/// The library lists a certificate under its own id exactly if it stands.
+fn standing(store: &[u8], slot: usize, id: [u8; 8], second: u32) -> &'static str {
+    match nattveldi::list(store, &id, second) {
+        Ok(slots) if slots.contains(&slot) => ", stands",
+        _ => ", does not stand",
+    }
+}
