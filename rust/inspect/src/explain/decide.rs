@@ -63,15 +63,12 @@ pub fn store_length(steps: &mut Steps, store: &[u8]) -> Result<(), u8> {
 /// The library's verdict; the rule that is broken is this tool's reading.
 pub fn store_is_valid(steps: &mut Steps, store: &[u8]) -> Result<(), u8> {
     let valid = verdict::store(store) == 0;
-    let rule = match first_broken(store) {
-        Some(broken) if !valid => format!("; octet {}: {}", broken.offset(), broken.rule),
-        _ => String::new(),
-    };
-    steps.test(
-        2,
-        valid,
-        format!("the store is valid, says the library{rule}"),
-    )
+    let broken = (!valid).then(|| first_broken(store)).flatten();
+    let rule = broken.map_or(String::new(), |broken| {
+        format!("; octet {}: {}", broken.offset(), broken.rule)
+    });
+    let text = format!("the store is valid, says the library{rule}");
+    steps.test(2, valid, text)
 }
 
 fn situation(steps: &mut Steps, s: &Situation) -> Result<(), u8> {

@@ -1,6 +1,7 @@
 //! The filled slots of a store.
 
-use super::layout::{SLOTS, SLOT_LENGTH};
+use super::bits;
+use super::layout::{SLOTS, SLOT_LENGTH, STATE};
 use super::Record;
 
 pub struct Slots {
@@ -11,9 +12,10 @@ impl Slots {
     /// The filled slots of a store that has the right length.
     pub fn of(store: &[u8]) -> Slots {
         let slots = store.chunks_exact(SLOT_LENGTH).take(SLOTS).enumerate();
-        let records = slots.map(|(slot, octets)| (slot, Record::from_slot(octets)));
+        let filled = slots.filter(|(_, octets)| state(octets) != 0);
+        let records = filled.map(|(slot, octets)| (slot, Record::from_slot(octets)));
         Slots {
-            records: records.filter(|(_, record)| record.state != 0).collect(),
+            records: records.collect(),
         }
     }
 
@@ -32,4 +34,8 @@ impl Slots {
     pub fn first_empty(&self) -> Option<usize> {
         (0..SLOTS).find(|slot| self.iter().all(|(filled, _)| filled != *slot))
     }
+}
+
+fn state(slot: &[u8]) -> u64 {
+    bits::number(slot, STATE.bit, STATE.width)
 }
