@@ -66,8 +66,8 @@ fn reads(steps: &mut Steps, octets: &[u8]) -> Result<Record, u8> {
         }
         _ => String::new(),
     };
-    let text = format!("the certificate reads (3 to 6), says the library{fault}");
-    steps.test(number.max(3), number == 0, text)?;
+    let text = format!("the certificate reads, says the library{fault}");
+    steps.reading(number, text)?;
     let fields = library.map_err(|refusal| refusal.number())?;
     let id = nattveldi::id(octets).map_err(|refusal| refusal.number())?;
     Ok(Record::from_certificate(octets, id, &fields))

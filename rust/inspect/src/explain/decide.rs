@@ -94,9 +94,8 @@ fn reads(steps: &mut Steps, octets: &[u8]) -> Result<Message, u8> {
         }
         _ => String::new(),
     };
-    let number = if library == 0 { 3 } else { library };
-    let text = format!("the message reads (3 to 6), says the library{fault}");
-    steps.test(number, library == 0, text)?;
+    let text = format!("the message reads, says the library{fault}");
+    steps.reading(library, text)?;
     own.outcome.map_err(|fault| fault.number)
 }
 

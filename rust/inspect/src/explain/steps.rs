@@ -1,13 +1,15 @@
 //! Tests one after the other, up to the first that fails.
 
+use crate::verdict;
+
 /// A line of an explanation.
 #[derive(Clone, Debug, PartialEq, Eq)]
 pub enum Line {
     /// What the tests behind it are about.
     Note(String),
     Test {
-        /// The number that is answered if it fails.
-        number: u8,
+        /// The number that is answered if it fails, and its name.
+        name: String,
         passed: bool,
         text: String,
     },
@@ -25,16 +27,25 @@ impl Steps {
 
     /// `Err` with the number if the test fails, so that `?` ends there.
     pub fn test(&mut self, number: u8, passed: bool, text: impl Into<String>) -> Result<(), u8> {
-        self.lines.push(Line::Test {
-            number,
-            passed,
-            text: text.into(),
-        });
+        self.named(verdict::short(number), passed, text.into());
         if passed {
             Ok(())
         } else {
             Err(number)
         }
+    }
+
+    /// The reading of octets by the library, which has several numbers.
+    pub fn reading(&mut self, library: u8, text: String) -> Result<(), u8> {
+        if library != 0 {
+            return self.test(library, false, text);
+        }
+        self.named("3 to 6, reading".to_string(), true, text);
+        Ok(())
+    }
+
+    fn named(&mut self, name: String, passed: bool, text: String) {
+        self.lines.push(Line::Test { name, passed, text });
     }
 
     /// What the last test says, and the note before it.

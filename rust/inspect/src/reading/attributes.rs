@@ -37,13 +37,6 @@ impl Cursor<'_> {
         Ok(Some(Lacking { what, end }))
     }
 
-    fn inside(&mut self, read: fn(&mut Self) -> Result<(), Fault>) -> Result<(), Fault> {
-        self.deeper();
-        read(self)?;
-        self.shallower();
-        Ok(())
-    }
-
     fn assurance(&mut self) -> Result<(), Fault> {
         let octet = self.octet("assurance_level")?;
         // Table 5: bits 7 to 5 the level, bits 1 and 0 the confidence.
@@ -61,12 +54,15 @@ impl Cursor<'_> {
         if !self.element(TYPE, octet, word)? {
             return Ok(false);
         }
-        let name = match kind {
+        self.inside(|cursor| cursor.permissions(kind))?;
+        Ok(true)
+    }
+
+    fn permissions(&mut self, kind: u8) -> Result<(), Fault> {
+        let end = self.length(match kind {
             TICKET => "its_aid_ssp_list.length",
             _ => "its_aid_list.length",
-        };
-        self.deeper();
-        let end = self.length(name)?;
+        })?;
         let outer = self.enter(end);
         for count in 0.. {
             if !self.any_left() {
@@ -75,8 +71,7 @@ impl Cursor<'_> {
             self.permission(kind, count)?;
         }
         self.leave(outer);
-        self.shallower();
-        Ok(true)
+        Ok(())
     }
 
     fn permission(&mut self, kind: u8, count: usize) -> Result<(), Fault> {

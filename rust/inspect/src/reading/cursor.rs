@@ -158,12 +158,14 @@ impl<'a> Cursor<'a> {
     }
 
     /// A structure without a container of its own.
-    pub fn deeper(&mut self) {
+    pub fn inside<T>(
+        &mut self,
+        read: impl FnOnce(&mut Self) -> Result<T, Fault>,
+    ) -> Result<T, Fault> {
         self.depth += 1;
-    }
-
-    pub fn shallower(&mut self) {
+        let value = read(self)?;
         self.depth -= 1;
+        Ok(value)
     }
 
     pub fn cut(&self, name: &str, length: usize) -> Fault {

@@ -58,50 +58,53 @@ impl Cursor<'_> {
         if !self.element(TYPE, SIGNER_INFO, "signer_info")? {
             self.no_stray(TYPE, &NAMED)?;
         }
-        self.deeper();
+        self.inside(Cursor::signer_info)
+    }
+
+    fn signer_info(&mut self) -> Result<Signer, Fault> {
         let octet = self.octet("signer_info.type")?;
         self.describe(spelled(octet, signer_type(octet)));
         let reason = format!("signer_info.type {octet} is not read in a message");
         self.need(matches!(octet, 1 | 2), UNSUPPORTED, &reason)?;
-        let signer = if octet == 1 {
+        if octet == 1 {
             let mut id = [0; 8];
             id.copy_from_slice(self.run("signer_info.digest", 8)?);
-            Signer::Id(id)
-        } else {
-            let start = self.at();
-            self.deeper();
-            self.certificate()?;
-            self.shallower();
-            Signer::Certificate(start..self.at())
-        };
-        self.shallower();
-        Ok(signer)
+            return Ok(Signer::Id(id));
+        }
+        let start = self.at();
+        self.inside(Cursor::certificate)?;
+        Ok(Signer::Certificate(start..self.at()))
     }
 
     fn other_headers(&mut self, headers: &mut Headers) -> Result<(), Fault> {
         if self.element(TYPE, 0, "generation_time")? {
-            headers.generation_time = Some(self.time64("generation_time")?);
+            let time = self.inside(|c| c.time64("generation_time"))?;
+            headers.generation_time = Some(time);
         }
         if self.element(TYPE, 1, "generation_time_standard_deviation")? {
-            self.time64("time")?;
-            self.octet("log_std_dev")?;
+            self.inside(|c| c.time64("time"))?;
+            self.inside(|c| c.octet("log_std_dev"))?;
         }
         if self.element(TYPE, 2, "expiration")? {
-            headers.expiration = Some(self.time32("expiry_time")?);
+            headers.expiration = Some(self.inside(|c| c.time32("expiry_time"))?);
         }
         if self.element(TYPE, 3, "generation_location")? {
-            let latitude = self.latitude("generation_location.latitude")?;
-            let longitude = self.longitude("generation_location.longitude")?;
-            headers.location = Some((latitude, longitude));
-            self.elevation()?;
+            headers.location = Some(self.inside(Cursor::location)?);
         }
         if self.element(TYPE, 4, "request_unrecognized_certificate")? {
-            self.digests()?;
+            self.inside(Cursor::digests)?;
         }
         if self.element(TYPE, 5, "its_aid")? {
-            headers.its_aid = Some(self.intx("its_aid")?);
+            headers.its_aid = Some(self.inside(|c| c.intx("its_aid"))?);
         }
         self.no_stray(TYPE, &NAMED)
+    }
+
+    fn location(&mut self) -> Result<(i32, i32), Fault> {
+        let latitude = self.latitude("generation_location.latitude")?;
+        let longitude = self.longitude("generation_location.longitude")?;
+        self.elevation()?;
+        Ok((latitude, longitude))
     }
 
     /// Decimetres, negative from F001 on; F000 is unknown (001, clause 4.2.19).

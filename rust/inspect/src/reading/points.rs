@@ -39,10 +39,10 @@ impl Cursor<'_> {
         let offset = self.at();
         self.exactly("signature.algorithm", 0, "ecdsa_nistp256_with_sha256")?;
         nothing_lacking(lacking)?;
-        self.deeper();
-        self.point("ecdsa_signature.R.type", "ecdsa_signature.R.x", &[0, 2, 3])?;
-        self.run("ecdsa_signature.s", 32)?;
-        self.shallower();
+        self.inside(|cursor| {
+            cursor.point("ecdsa_signature.R.type", "ecdsa_signature.R.x", &[0, 2, 3])?;
+            cursor.run("ecdsa_signature.s", 32)
+        })?;
         Ok((offset, self.at()))
     }
 

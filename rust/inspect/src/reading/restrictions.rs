@@ -16,9 +16,7 @@ impl Cursor<'_> {
         let outer = self.enter(end);
         let has_period = self.period()?;
         if self.element(TYPE, 3, "region")? {
-            self.deeper();
-            self.region()?;
-            self.shallower();
+            self.inside(Cursor::region)?;
         }
         self.no_stray(TYPE, &[0, 1, 2, 3])?;
         self.leave(outer);
@@ -29,20 +27,17 @@ impl Cursor<'_> {
     /// One of the three forms; whether there is one.
     fn period(&mut self) -> Result<bool, Fault> {
         let (start, end) = if self.element(TYPE, 0, "time_end")? {
-            self.deeper();
-            (0, u64::from(self.time32("end_validity")?))
+            (0, self.inside(|c| c.time32("end_validity"))?.into())
         } else if self.element(TYPE, 1, "time_start_and_end")? {
-            self.deeper();
-            let start = self.time32("start_validity")?;
-            (start.into(), u64::from(self.time32("end_validity")?))
+            let start = self.inside(|c| c.time32("start_validity"))?;
+            let end = self.inside(|c| c.time32("end_validity"))?;
+            (start.into(), end.into())
         } else if self.element(TYPE, 2, "time_start_and_duration")? {
-            self.deeper();
-            let start = u64::from(self.time32("start_validity")?);
-            (start, start + self.duration()?)
+            let start = u64::from(self.inside(|c| c.time32("start_validity"))?);
+            (start, start + self.inside(Cursor::duration)?)
         } else {
             return Ok(false);
         };
-        self.shallower();
         let reason = format!("the period starts at {start} and ends at {end}: it holds no second");
         self.need(start < end, MALFORMED, &reason)?;
         Ok(true)

@@ -14,8 +14,7 @@ pub fn certificate(source: String, given: &[u8]) -> Page {
     if let Ok(fields) = &answer {
         lines.library_fields(given, fields);
     }
-    lines.fault(&own, number);
-    lines.fields(&own.fields);
+    lines.reading(&own, number);
     lines.page(number)
 }
 

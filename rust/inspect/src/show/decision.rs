@@ -50,7 +50,12 @@ impl Lines {
         self.label("now", &format!("{}{}", time::microsecond(s.now), given.now));
         let place = degrees::place(s.latitude, s.longitude);
         self.label("position", &format!("{place}{}", given.position));
-        self.label("age", &format!("{} microseconds", s.age));
+        let meaning = if s.age == 0 {
+            ", which stands for 2 seconds"
+        } else {
+            ""
+        };
+        self.label("age", &format!("{} microseconds{meaning}", s.age));
         let verdicts = format!(
             "message {}, certificate {} (inputs: no signature is checked here)",
             case.verdict, case.certificate_verdict

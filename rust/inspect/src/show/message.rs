@@ -13,11 +13,10 @@ pub fn message(source: String, given: &[u8]) -> Page {
         0 => lines.label("verdict", "it reads; `decide` judges it against a store"),
         _ => lines.label("verdict", &verdict::sentence(number)),
     }
-    lines.fault(&own, number);
     if let (Ok(message), 0) = (&own.outcome, number) {
         lines.message_parts(given, message);
     }
-    lines.fields(&own.fields);
+    lines.reading(&own, number);
     lines.page(number)
 }
 

@@ -17,10 +17,9 @@ pub fn store(source: String, given: &[u8], at: Option<u32>) -> Page {
         0 => lines.label("verdict", "a valid store"),
         _ => lines.label("verdict", &verdict::sentence(number)),
     }
-    if number == BAD_CALL {
+    if number == BAD_CALL || !lines.fits(given, number) {
         return lines.page(number);
     }
-    lines.broken(given, number);
     let slots = Slots::of(given);
     let counts = format!("{} filled, {} empty", slots.count(), SLOTS - slots.count());
     lines.label("slots", &counts);
@@ -44,21 +43,24 @@ pub fn store(source: String, given: &[u8], at: Option<u32>) -> Page {
 }
 
 impl Lines {
-    /// The rule that a bad store breaks first, by this tool's own reading.
-    fn broken(&mut self, given: &[u8], library: u8) {
+    /// The rule that a bad store breaks first, by this tool's own reading, and
+    /// whether that reading fits the library's verdict.
+    fn fits(&mut self, given: &[u8], library: u8) -> bool {
         let broken = first_broken(given);
         let own = if broken.is_some() { BAD_STORE } else { 0 };
         if let Some(unfit) = verdict::unfit("this tool's own reading", library, own) {
-            self.label("fault", &unfit);
-            return;
+            self.label("layout", &unfit);
+            self.label("", "No slots are given.");
+            return false;
         }
         if let Some(broken) = broken {
             let (slot, rule) = (broken.slot, &broken.rule);
             let (offset, bit) = (broken.offset(), broken.bit % 8);
             let words = format!("at octet {offset}, bit {bit}, of slot {slot}: {rule}");
             self.label("fault", &words);
-            self.label("", "(place and reason: this tool's own reading)");
+            self.label("", "(place and reason: this tool's own reading, which arrives at 2 as the library does)");
         }
+        true
     }
 }
 
