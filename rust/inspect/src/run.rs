@@ -2,7 +2,7 @@
 
 use nattveldi::Situation;
 
-use crate::arguments::{Asked, Example, Order, Source, Target};
+use crate::arguments::{Asked, Entry, Example, Order, Source, Target};
 use crate::example;
 use crate::explain::Case;
 use crate::help::HELP;
@@ -27,7 +27,7 @@ pub fn run(order: &Order) -> Result<Outcome, String> {
             message,
             asked,
         } => decide(store, message, asked),
-        Order::Enter { .. } => enter(order),
+        Order::Enter(entry) => enter(entry),
         Order::List { store, id, at } => {
             looked(store, |words, octets| show::list(words, octets, id, *at))
         }
@@ -47,19 +47,17 @@ fn looked(source: &Source, show: impl Fn(String, &[u8]) -> Page) -> Result<Outco
 
 fn decide(store: &Source, message: &Source, asked: &Asked) -> Result<Outcome, String> {
     let (store, message) = (input(store)?, input(message)?);
-    let own_time = || {
-        reading::message(&message.octets)
-            .outcome
-            .map(|m| m.generation_time)
-    };
-    let now = asked.now.unwrap_or_else(|| own_time().unwrap_or(0));
+    let own_time = reading::message(&message.octets).outcome;
+    let own_time = own_time.map(|message| message.generation_time);
+    let now = asked.now.or(own_time.as_ref().ok().copied()).unwrap_or(0);
     let (latitude, longitude) = asked.position.unwrap_or((0, 0));
     let given = Given {
         store: store.words,
         message: message.words,
-        now: match asked.now {
-            Some(_) => "",
-            None => " (not given: the message's own time is taken)",
+        now: match (asked.now, &own_time) {
+            (Some(_), _) => "",
+            (None, Ok(_)) => " (not given: the message's own time is taken)",
+            (None, Err(_)) => " (not given)",
         },
         position: match asked.position {
             Some(_) => "",
@@ -81,25 +79,21 @@ fn decide(store: &Source, message: &Source, asked: &Asked) -> Result<Outcome, St
     Ok(shown(show::decision(&given, &case)))
 }
 
-fn enter(order: &Order) -> Result<Outcome, String> {
-    let Order::Enter {
-        wants_root,
-        store,
-        certificate,
-        verdict,
-        target,
-    } = order
-    else {
-        unreachable!("called for this order alone")
-    };
-    let (mut store, certificate) = (input(store)?, input(certificate)?);
+fn enter(entry: &Entry) -> Result<Outcome, String> {
+    let mut store = input(&entry.store)?;
+    let certificate = input(&entry.certificate)?;
     let inputs = [
         format!("store: {}", store.words),
         format!("certificate: {}", certificate.words),
     ];
-    let octets = &certificate.octets;
-    let page = show::admission(inputs, &mut store.octets, octets, *verdict, *wants_root);
-    changed(page, &store.octets, target)
+    let page = show::admission(
+        inputs,
+        &mut store.octets,
+        &certificate.octets,
+        entry.verdict,
+        entry.wants_root,
+    );
+    changed(page, &store.octets, &entry.target)
 }
 
 /// A page, and the store that the library leaves, if it accepted.

@@ -43,86 +43,88 @@ fn ids_and_kinds_of_the_examples() {
     }
 }
 
+/// Offset, length, name and value.
+const TICKET_FIELDS: [(usize, usize, &str, &str); 23] = [
+    (0, 1, "version", "2"),
+    (
+        1,
+        1,
+        "signer_info.type",
+        "1 (certificate_digest_with_sha256)",
+    ),
+    (2, 8, "signer_info.digest", "a1b2c3d4e5f60718"),
+    (
+        10,
+        1,
+        "subject_info.subject_type",
+        "1 (authorization_ticket)",
+    ),
+    (
+        12,
+        7,
+        "subject_info.subject_name",
+        "756e6974203137 \"unit 17\"",
+    ),
+    (19, 1, "subject_attributes.length", "50 octets"),
+    (20, 1, "subject_attribute.type", "0 (verification_key)"),
+    (22, 1, "public_key.type", "3 (compressed_lsb_y_1)"),
+    (56, 1, "assurance_level", "131 (level 4, confidence 3)"),
+    (59, 1, "its_aid", "36"),
+    (61, 3, "service_specific_permissions", "018000"),
+    (64, 1, "its_aid", "37"),
+    (66, 4, "service_specific_permissions", "01ffffff"),
+    (70, 1, "validity_restrictions.length", "28 octets"),
+    (
+        72,
+        4,
+        "start_validity",
+        "TAI second 694656000 = 2026-01-04 23:59:55 UTC",
+    ),
+    (
+        76,
+        4,
+        "end_validity",
+        "TAI second 695260800 = 2026-01-11 23:59:55 UTC",
+    ),
+    (81, 1, "region_type", "2 (rectangle)"),
+    (
+        83,
+        4,
+        "northwest.latitude",
+        "64.2000000 degrees (642000000)",
+    ),
+    (
+        87,
+        4,
+        "northwest.longitude",
+        "-22.1000000 degrees (-221000000)",
+    ),
+    (
+        91,
+        4,
+        "southeast.latitude",
+        "64.0000000 degrees (640000000)",
+    ),
+    (
+        95,
+        4,
+        "southeast.longitude",
+        "-21.6000000 degrees (-216000000)",
+    ),
+    (
+        99,
+        1,
+        "signature.algorithm",
+        "0 (ecdsa_nistp256_with_sha256)",
+    ),
+    (100, 1, "ecdsa_signature.R.type", "2 (compressed_lsb_y_0)"),
+];
+
 #[test]
 fn fields_of_the_ticket() {
     let answer = shown(&ticket());
     has_line(&answer, &["standard input (raw octets), 165 octets"]);
-    let rows = [
-        (0, 1, "version", "2"),
-        (
-            1,
-            1,
-            "signer_info.type",
-            "1 (certificate_digest_with_sha256)",
-        ),
-        (2, 8, "signer_info.digest", "a1b2c3d4e5f60718"),
-        (
-            10,
-            1,
-            "subject_info.subject_type",
-            "1 (authorization_ticket)",
-        ),
-        (
-            12,
-            7,
-            "subject_info.subject_name",
-            "756e6974203137 \"unit 17\"",
-        ),
-        (19, 1, "subject_attributes.length", "50 octets"),
-        (20, 1, "subject_attribute.type", "0 (verification_key)"),
-        (22, 1, "public_key.type", "3 (compressed_lsb_y_1)"),
-        (56, 1, "assurance_level", "131 (level 4, confidence 3)"),
-        (59, 1, "its_aid", "36"),
-        (61, 3, "service_specific_permissions", "018000"),
-        (64, 1, "its_aid", "37"),
-        (66, 4, "service_specific_permissions", "01ffffff"),
-        (70, 1, "validity_restrictions.length", "28 octets"),
-        (
-            72,
-            4,
-            "start_validity",
-            "TAI second 694656000 = 2026-01-04 23:59:55 UTC",
-        ),
-        (
-            76,
-            4,
-            "end_validity",
-            "TAI second 695260800 = 2026-01-11 23:59:55 UTC",
-        ),
-        (81, 1, "region_type", "2 (rectangle)"),
-        (
-            83,
-            4,
-            "northwest.latitude",
-            "64.2000000 degrees (642000000)",
-        ),
-        (
-            87,
-            4,
-            "northwest.longitude",
-            "-22.1000000 degrees (-221000000)",
-        ),
-        (
-            91,
-            4,
-            "southeast.latitude",
-            "64.0000000 degrees (640000000)",
-        ),
-        (
-            95,
-            4,
-            "southeast.longitude",
-            "-21.6000000 degrees (-216000000)",
-        ),
-        (
-            99,
-            1,
-            "signature.algorithm",
-            "0 (ecdsa_nistp256_with_sha256)",
-        ),
-        (100, 1, "ecdsa_signature.R.type", "2 (compressed_lsb_y_0)"),
-    ];
-    for (offset, length, name, value) in rows {
+    for (offset, length, name, value) in TICKET_FIELDS {
         has_field(&answer, offset, length, name, value);
     }
 }

@@ -160,36 +160,61 @@ fn decisions_with_a_certificate() {
     met(&counts, &[0, 2, 4, 5, 6, 7, 8, 9, 14, 15], 5);
 }
 
-/// A chain of authorities and a ticket: seven above the ticket are walked, an
-/// eighth is 18.
+/// A message by id 99, of this time, with ITS-AID 36.
+fn message_at(time: u64) -> Vec<u8> {
+    let signer = [&[128, 1][..], &[99; 8]].concat();
+    let headers = [&signer[..], &[0], &time.to_be_bytes(), &[5, 36]].concat();
+    let head = vec![2, headers.len() as u8];
+    [head, headers, vec![1, 0, 67, 1], vec![0; 66]].concat()
+}
+
+fn decided(slots: &[Slot], time: u64, now: u64) -> u8 {
+    agrees(&Case {
+        store: &store(slots),
+        message: &message_at(time),
+        situation: Situation {
+            now,
+            ..Situation::default()
+        },
+        verdict: 1,
+        certificate_verdict: 0,
+    })
+}
+
+/// Eight certificates reach a root, or it is 18: six authorities may stand
+/// between it and the ticket.
 #[test]
 fn long_chains() {
-    let mut random = Random::new(0x18);
     for (authorities, expected) in [(5, 0), (6, 0), (7, 18), (9, 18)] {
         let mut slots = vec![Slot::new(1, 0, 4, 100, 1_000)];
         slots.extend((1..=authorities).map(|i| Slot::new(i + 1, i, 2, 100, 1_000)));
         slots.push(Slot::new(99, authorities + 1, 1, 100, 1_000));
-        let mut message = by_id(&mut random, 99);
-        while inspect::reading::message(&message).outcome.unwrap().its_aid != 36
-            || inspect::reading::message(&message)
-                .outcome
-                .unwrap()
-                .expiration
-                .is_some()
-        {
-            message = by_id(&mut random, 99);
-        }
-        let case = Case {
-            store: &store(&slots),
-            message: &message,
-            situation: Situation {
-                now: 251_000_000,
-                ..Situation::default()
-            },
-            verdict: 1,
-            certificate_verdict: 1,
-        };
-        assert_eq!(agrees(&case), expected);
+        assert_eq!(decided(&slots, 250_000_000, 250_000_000), expected);
+    }
+}
+
+/// Document 01: with a period of 200 to 300, 299 is in and 300 out; at now
+/// 10,000,000 and age 0, 8,000,000 and 12,000,000 pass.
+#[test]
+fn worked_numbers() {
+    let pair = |start, end| {
+        [
+            Slot::new(1, 0, 4, 0, 1_000),
+            Slot::new(99, 1, 1, start, end),
+        ]
+    };
+    for (second, expected) in [(199, 12), (200, 0), (299, 0), (300, 12)] {
+        let time = 1_000_000 * second;
+        assert_eq!(decided(&pair(200, 300), time, time), expected);
+    }
+    let times = [
+        (7_999_999, 14),
+        (8_000_000, 0),
+        (12_000_000, 0),
+        (12_000_001, 14),
+    ];
+    for (time, expected) in times {
+        assert_eq!(decided(&pair(0, 900), time, 10_000_000), expected);
     }
 }
 

@@ -22,14 +22,7 @@ pub enum Order {
         message: Source,
         asked: Asked,
     },
-    /// Install, if a root is wanted, or admit.
-    Enter {
-        wants_root: bool,
-        store: Source,
-        certificate: Source,
-        verdict: u8,
-        target: Target,
-    },
+    Enter(Entry),
     List {
         store: Source,
         id: [u8; 8],
@@ -53,6 +46,16 @@ pub struct Asked {
     pub age: u64,
     pub verdict: u8,
     pub certificate_verdict: u8,
+}
+
+/// Install, if a root is wanted, or admit.
+#[derive(Clone, Debug, PartialEq)]
+pub struct Entry {
+    pub wants_root: bool,
+    pub store: Source,
+    pub certificate: Source,
+    pub verdict: u8,
+    pub target: Target,
 }
 
 #[derive(Clone, Copy, Debug, PartialEq)]

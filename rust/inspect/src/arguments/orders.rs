@@ -3,7 +3,7 @@
 use std::ffi::{OsStr, OsString};
 
 use super::words::Words;
-use super::{Asked, Example, Order};
+use super::{Asked, Entry, Example, Order};
 use crate::text::{degrees, hex, time};
 
 const INPUT: [&str; 2] = ["--hex", "--octets"];
@@ -87,13 +87,13 @@ fn enter(words: &Words, rest: &[&OsStr], wants_root: bool) -> Result<Order, Stri
     let own = ["--verdict", "--output", "--raw"];
     words.allow(command, &[&INPUT[..], &own].concat())?;
     let [store, certificate] = two(rest, command, "a store and a certificate")?;
-    Ok(Order::Enter {
+    Ok(Order::Enter(Entry {
         wants_root,
         store: words.source(store),
         certificate: words.source(certificate),
         verdict: verdict(words, "--verdict")?,
         target: words.target(),
-    })
+    }))
 }
 
 fn list(words: &Words, rest: &[&OsStr]) -> Result<Order, String> {

@@ -1,7 +1,7 @@
 //! Install and admit, test by test.
 
-use super::decide::{store_is_valid, store_length};
 use super::issue::issued_by;
+use super::library::{reads, store_is_valid, store_length};
 use super::steps::Steps;
 use super::Explanation;
 use crate::reading;
@@ -29,7 +29,7 @@ fn tests(
 ) -> Result<(), u8> {
     store_length(steps, store)?;
     store_is_valid(steps, store)?;
-    let record = reads(steps, octets)?;
+    let record = read(steps, octets)?;
     let slots = Slots::of(store);
     steps.note(format!("the certificate is {}", record.title()));
     let wanted = if wants_root {
@@ -56,19 +56,11 @@ fn tests(
     steps.test(16, empty.is_some(), format!("a slot is empty: {place}"))
 }
 
-/// The library's verdict, fields and id; the offset is this tool's reading.
-fn reads(steps: &mut Steps, octets: &[u8]) -> Result<Record, u8> {
-    let library = nattveldi::read(octets);
-    let number = verdict::number(&library);
-    let fault = match reading::certificate(octets).outcome {
-        Err(fault) if fault.number == number => {
-            format!("; octet {}: {}", fault.offset, fault.reason)
-        }
-        _ => String::new(),
-    };
-    let text = format!("the certificate reads, says the library{fault}");
-    steps.reading(number, text)?;
-    let fields = library.map_err(|refusal| refusal.number())?;
+/// Its fields and its id are the library's.
+fn read(steps: &mut Steps, octets: &[u8]) -> Result<Record, u8> {
+    let own = reading::certificate(octets);
+    reads(steps, "certificate", verdict::certificate(octets), &own)?;
+    let fields = nattveldi::read(octets).map_err(|refusal| refusal.number())?;
     let id = nattveldi::id(octets).map_err(|refusal| refusal.number())?;
     Ok(Record::from_certificate(octets, id, &fields))
 }

@@ -3,16 +3,16 @@
 use nattveldi::Situation;
 
 use super::issue::list;
+use super::library::{reads, store_is_valid, store_length};
 use super::signer::signer;
 use super::steps::Steps;
 use super::walk::{walk, Circumstances};
 use super::Explanation;
 use crate::reading::{self, Message, Signer, MOST_LATITUDE, MOST_LONGITUDE};
-use crate::store::{first_broken, layout, Slots};
+use crate::store::Slots;
 use crate::text::{degrees, time};
 use crate::verdict;
 
-const STORE_LENGTH: usize = layout::SLOTS * layout::SLOT_LENGTH;
 const LONGEST_AGE: u64 = 600_000_000;
 /// What an age of 0 stands for.
 const DEFAULT_AGE: u64 = 2_000_000;
@@ -37,7 +37,7 @@ fn tests(steps: &mut Steps, case: &Case) -> Result<(), u8> {
     store_length(steps, case.store)?;
     situation(steps, &case.situation)?;
     store_is_valid(steps, case.store)?;
-    let message = reads(steps, case.message)?;
+    let message = read(steps, case.message)?;
     in_time(steps, &message, &case.situation)?;
     let slots = Slots::of(case.store);
     let signer = signer(steps, &slots, case.message, &message)?;
@@ -55,22 +55,6 @@ fn tests(steps: &mut Steps, case: &Case) -> Result<(), u8> {
     signatures(steps, &message, case)
 }
 
-pub fn store_length(steps: &mut Steps, store: &[u8]) -> Result<(), u8> {
-    let text = format!("the store has {STORE_LENGTH} octets: {}", store.len());
-    steps.test(1, store.len() == STORE_LENGTH, text)
-}
-
-/// The library's verdict; the rule that is broken is this tool's reading.
-pub fn store_is_valid(steps: &mut Steps, store: &[u8]) -> Result<(), u8> {
-    let valid = verdict::store(store) == 0;
-    let broken = (!valid).then(|| first_broken(store)).flatten();
-    let rule = broken.map_or(String::new(), |broken| {
-        format!("; octet {}: {}", broken.offset(), broken.rule)
-    });
-    let text = format!("the store is valid, says the library{rule}");
-    steps.test(2, valid, text)
-}
-
 fn situation(steps: &mut Steps, s: &Situation) -> Result<(), u8> {
     let in_range = (-MOST_LATITUDE..=MOST_LATITUDE).contains(&s.latitude)
         && (-MOST_LONGITUDE..=MOST_LONGITUDE).contains(&s.longitude);
@@ -84,18 +68,9 @@ fn situation(steps: &mut Steps, s: &Situation) -> Result<(), u8> {
     steps.test(1, s.age <= LONGEST_AGE, text)
 }
 
-/// The library's verdict; the offset is this tool's reading.
-fn reads(steps: &mut Steps, octets: &[u8]) -> Result<Message, u8> {
-    let library = verdict::message(octets);
+fn read(steps: &mut Steps, octets: &[u8]) -> Result<Message, u8> {
     let own = reading::message(octets);
-    let fault = match &own.outcome {
-        Err(fault) if fault.number == library => {
-            format!("; octet {}: {}", fault.offset, fault.reason)
-        }
-        _ => String::new(),
-    };
-    let text = format!("the message reads, says the library{fault}");
-    steps.reading(library, text)?;
+    reads(steps, "message", verdict::message(octets), &own)?;
     own.outcome.map_err(|fault| fault.number)
 }
 

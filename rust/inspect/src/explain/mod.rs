@@ -5,6 +5,7 @@
 mod admission;
 mod decide;
 mod issue;
+mod library;
 mod signer;
 mod steps;
 mod walk;

@@ -1,6 +1,6 @@
 //! List and withdraw, test by test, and which certificates fall.
 
-use super::decide::{store_is_valid, store_length};
+use super::library::{store_is_valid, store_length};
 use super::steps::Steps;
 use super::walk::{walk, Circumstances};
 use super::Explanation;

@@ -104,3 +104,46 @@ impl Cursor<'_> {
 fn number(octets: &[u8]) -> u64 {
     octets.iter().fold(0, |n, &o| n << 8 | u64::from(o))
 }
+
+/// The worked numbers of document 01.
+#[cfg(test)]
+mod tests {
+    use super::*;
+
+    fn read<T>(octets: &[u8], read: fn(&mut Cursor) -> Result<T, Fault>) -> Result<T, u8> {
+        read(&mut Cursor::new(octets)).map_err(|fault| fault.number)
+    }
+
+    #[test]
+    fn intx() {
+        let cases: [(&[u8], Result<u32, u8>); 10] = [
+            (&[0x0a], Ok(10)),
+            (&[0x88, 0x88], Ok(2_184)),
+            (&[0x80, 0x80], Ok(128)),
+            (&[0x80, 0x7f], Err(5)),
+            (&[0xc0, 0x40, 0x00], Ok(16_384)),
+            (&[0xef, 0xff, 0xff, 0xff], Ok(268_435_455)),
+            (&[0xf0], Err(6)),
+            (&[], Err(4)),
+            (&[0xc0, 0x40], Err(4)),
+            (&[0xc0, 0x3f, 0xff], Err(5)),
+        ];
+        for (octets, value) in cases {
+            assert_eq!(read(octets, |c| c.intx("its_aid")), value, "{octets:02x?}");
+        }
+    }
+
+    #[test]
+    fn durations_and_places() {
+        assert_eq!(read(&[0x20, 0x01], |c| c.duration()), Ok(60));
+        assert_eq!(read(&[0x60, 0x02], |c| c.duration()), Ok(432_000));
+        assert_eq!(read(&[0xa0, 0x00], |c| c.duration()), Err(5));
+        let latitude = |octets: &[u8]| read(octets, |c| c.latitude("latitude"));
+        assert_eq!(latitude(&[0xff; 4]), Ok(-1));
+        assert_eq!(latitude(&900_000_000_i32.to_be_bytes()), Ok(900_000_000));
+        assert_eq!(latitude(&900_000_001_i32.to_be_bytes()), Err(5));
+        let longitude = |octets: &[u8]| read(octets, |c| c.longitude("longitude"));
+        assert_eq!(longitude(&900_000_001_i32.to_be_bytes()), Ok(900_000_001));
+        assert_eq!(longitude(&(-1_800_000_001_i32).to_be_bytes()), Err(5));
+    }
+}

@@ -19,11 +19,14 @@ pub fn octets(text: &[u8]) -> Result<Vec<u8>, String> {
     Ok(pairs.map(|pair| pair[0] << 4 | pair[1]).collect())
 }
 
-/// Whether octets look like text, so that they are meant as hex: outside of
-/// comments all of them are printable or white space, and there is one.
+/// Whether octets look like text, so that they are meant as hex: no control
+/// character but white space stands anywhere, and outside of comments all are
+/// printable ASCII. A raw certificate or message begins with the octet 2, and a
+/// raw store has zeros.
 pub fn is_text(octets: &[u8]) -> bool {
-    let printable = |c: &u8| c.is_ascii_graphic() || c.is_ascii_whitespace();
-    !octets.is_empty() && codes(octets).all(|code| code.iter().all(printable))
+    let is_control = |c: &u8| c.is_ascii_control() && !c.is_ascii_whitespace();
+    let is_ascii = |code: &[u8]| code.is_ascii();
+    !octets.is_empty() && !octets.iter().any(is_control) && codes(octets).all(is_ascii)
 }
 
 /// Lowercase digits, `-` for no octets.
@@ -66,6 +69,8 @@ mod tests {
         assert!(!is_text(&[2, 0, 4]));
         assert!(!is_text(&[0; 20]));
         assert!(!is_text(&[]));
+        assert!(!is_text(&[&b"#1234567"[..], &[0; 204]].concat()));
+        assert!(!is_text("å0".as_bytes()));
         assert!(is_text(b"0g"));
     }
 }
