@@ -31,6 +31,12 @@ pub fn store(octets: &[u8]) -> u8 {
     }
 }
 
+/// Whether the certificate in a slot stands at a second: the library lists it
+/// under its own id exactly if it does.
+pub fn stands(store: &[u8], slot: usize, id: &[u8; 8], second: u32) -> bool {
+    nattveldi::list(store, id, second).is_ok_and(|slots| slots.contains(&slot))
+}
+
 /// 0 if the library accepts, else the number by which it refuses.
 pub fn number<T>(answer: &Result<T, Refusal>) -> u8 {
     answer.as_ref().err().map_or(0, |refusal| refusal.number())

@@ -11,7 +11,7 @@ use inspect::explain::{self, Case};
 use inspect::{example, verdict};
 use nattveldi::Situation;
 
-const CASES: usize = 3_000;
+const CASES: usize = 2_000;
 
 /// A few certificates whose ids, issuers, periods, regions and permissions are
 /// drawn from a few values, so that chains form and break.

@@ -23,7 +23,7 @@ pub fn list(store: &[u8], id: &[u8; 8], second: u32) -> Falling {
     let mut slots = Vec::new();
     let explanation = Explanation::of(|steps| {
         tests(steps, store, id)?;
-        slots = falling(steps, &Slots::of(store), *id, second.into());
+        slots = falling(steps, store, id, second);
         Ok(())
     });
     Falling { explanation, slots }
@@ -43,33 +43,65 @@ fn tests(steps: &mut Steps, store: &[u8], id: &[u8; 8]) -> Result<(), u8> {
     steps.test(8, held, "it is not withdrawn yet")
 }
 
-fn falling(steps: &mut Steps, slots: &Slots, id: [u8; 8], second: u64) -> Vec<usize> {
+/// What stands and what falls is the library's; why is this tool's own walk,
+/// and so are the slots that are given back.
+fn falling(steps: &mut Steps, store: &[u8], id: &[u8; 8], second: u32) -> Vec<usize> {
+    let slots = Slots::of(store);
+    let listed = nattveldi::list(store, id, second).unwrap_or_default();
     let mut fallen = Vec::new();
     for (slot, record) in slots.iter() {
-        let before = standing(slots, record, second, None);
-        let after = standing(slots, record, second, Some(id));
-        let words = match (before, after) {
-            (Err(why), _) => format!("does not stand even now: {why}"),
-            (Ok(()), Ok(())) => "stands, and would stand after the withdrawal".to_string(),
-            (Ok(()), Err(why)) => {
-                fallen.push(slot);
-                format!("stands, and FALLS with the withdrawal: {why}")
-            }
+        let before = standing(&slots, record, second, None);
+        let after = standing(&slots, record, second, Some(*id));
+        if before.is_ok() && after.is_err() {
+            fallen.push(slot);
+        }
+        let library = Fate {
+            stands: verdict::stands(store, slot, &record.id, second),
+            falls: listed.contains(&slot),
         };
+        let words = library.words(before, after);
         steps.note(format!("slot {slot}, {}: {words}", record.title()));
     }
     fallen
+}
+
+/// What the library says of a certificate.
+#[derive(Clone, Copy, PartialEq)]
+struct Fate {
+    stands: bool,
+    falls: bool,
+}
+
+impl Fate {
+    fn words(self, before: Result<(), String>, after: Result<(), String>) -> String {
+        let own = Fate {
+            stands: before.is_ok(),
+            falls: before.is_ok() && after.is_err(),
+        };
+        let says = match (self.stands, self.falls) {
+            (false, _) => "does not stand even now",
+            (true, false) => "stands, and would stand after the withdrawal",
+            (true, true) => "stands, and FALLS with the withdrawal",
+        };
+        if own != self {
+            return format!("{says}, says the library; DOES NOT FIT this tool's own walk");
+        }
+        match before.and(after) {
+            Ok(()) => says.to_string(),
+            Err(why) => format!("{says}: {why}"),
+        }
+    }
 }
 
 /// Why a certificate does not stand.
 fn standing(
     slots: &Slots,
     record: &Record,
-    second: u64,
+    second: u32,
     withdrawn: Option<[u8; 8]>,
 ) -> Result<(), String> {
     let circumstances = Circumstances {
-        second,
+        second: second.into(),
         position: None,
         withdrawn,
     };
@@ -77,6 +109,34 @@ fn standing(
     walk(&mut steps, slots, record, &circumstances).map_err(|number| {
         let (certificate, test) = steps.last().unwrap_or_default();
         let name = verdict::short(number);
-        format!("{name} at {certificate}, where this fails: {test}")
+        format!("{name} at {certificate}; what does not hold: {test}")
     })
+}
+
+#[cfg(test)]
+mod tests {
+    use super::*;
+
+    fn said(stands: bool, falls: bool, before: bool, after: bool) -> String {
+        let own = |stands: bool| stands.then_some(()).ok_or("why".to_string());
+        Fate { stands, falls }.words(own(before), own(after))
+    }
+
+    /// The words are the library's, whatever the own walk finds.
+    #[test]
+    fn the_library_says_who_stands() {
+        let falls = "stands, and FALLS with the withdrawal";
+        assert_eq!(said(true, true, true, false), format!("{falls}: why"));
+        assert_eq!(
+            said(false, false, false, false),
+            "does not stand even now: why"
+        );
+        for (before, after) in [(true, true), (false, false)] {
+            let words = said(true, true, before, after);
+            assert!(
+                words.starts_with(falls) && words.contains("DOES NOT FIT"),
+                "{words}"
+            );
+        }
+    }
 }

@@ -2,7 +2,7 @@
 
 use super::{Lines, Page};
 use crate::store::layout::SLOTS;
-use crate::store::{first_broken, Slots, WITHDRAWN};
+use crate::store::{first_broken, Slots};
 use crate::text::time;
 use crate::verdict;
 
@@ -32,12 +32,13 @@ pub fn store(source: String, given: &[u8], at: Option<u32>) -> Page {
     lines.plain("");
     lines.plain("octet.bit  bits  field");
     for (slot, record) in slots.iter() {
-        let stands = match (at, number) {
-            (Some(second), 0) => standing(given, slot, record.id, second),
-            _ => "",
+        let stands = |second| verdict::stands(given, slot, &record.id, second);
+        let words = match at.filter(|_| number == 0).map(stands) {
+            None => "",
+            Some(true) => ", stands",
+            Some(false) => ", does not stand",
         };
-        let is_withdrawn = record.state == WITHDRAWN;
-        lines.slot(slot, record, if is_withdrawn { "" } else { stands });
+        lines.slot(slot, record, words);
     }
     lines.page(number)
 }
@@ -61,13 +62,5 @@ impl Lines {
             self.label("", "(place and reason: this tool's own reading, which arrives at 2 as the library does)");
         }
         true
-    }
-}
-
-/// The library lists a certificate under its own id exactly if it stands.
-fn standing(store: &[u8], slot: usize, id: [u8; 8], second: u32) -> &'static str {
-    match nattveldi::list(store, &id, second) {
-        Ok(slots) if slots.contains(&slot) => ", stands",
-        _ => ", does not stand",
     }
 }

@@ -67,9 +67,10 @@ fn count(slots: &[usize]) -> String {
 }
 
 fn words(slots: &[usize]) -> String {
-    if slots.is_empty() {
-        return "no slot".to_string();
-    }
     let words: Vec<String> = slots.iter().map(usize::to_string).collect();
-    format!("slots {}", words.join(", "))
+    match slots.len() {
+        0 => "no slot".to_string(),
+        1 => format!("slot {}", words[0]),
+        _ => format!("slots {}", words.join(", ")),
+    }
 }
