@@ -206,3 +206,30 @@ fn damaged_stores() {
     }
     counts.at_least(300, &[0, 2]);
 }
+
+/// The edges of document 01's rules: the latest end, the poles, and edges and
+/// times that must differ.
+#[test]
+fn edges_of_a_store() {
+    let whole = [900_000_000, -1_800_000_000, -900_000_000, 1_800_000_000];
+    let cases = [
+        (0, 262_777_739_970, whole, 0),
+        (0, 262_777_739_971, whole, 2),
+        (299, 300, whole, 0),
+        (300, 300, whole, 2),
+        (0, 1, [900_000_001, 0, 0, 1], 2),
+        (0, 1, [1, 0, -900_000_001, 1], 2),
+        (0, 1, [1, -1_800_000_001, 0, 1], 2),
+        (0, 1, [1, 0, 0, 1_800_000_001], 2),
+        (0, 1, [1, 0, 1, 1], 2),
+        (0, 1, [1, 1, 0, 1], 2),
+        (0, 1, [1, 0, 0, 1], 0),
+    ];
+    for (start, end, rectangle, expected) in cases {
+        let mut slot = slots::Slot::new(1, 2, 1, start, end);
+        slot.rectangles = vec![rectangle];
+        let store = slots::store(&[slot]);
+        assert_eq!(verdict::store(&store), expected);
+        assert_eq!(first_broken(&store).is_some(), expected == 2);
+    }
+}

@@ -135,9 +135,10 @@ fn decisions_with_a_certificate() {
         if random.one_in(4) {
             nattveldi::withdraw(&mut store, &random.of(&ids)).expect("it is held");
         }
-        match random.below(6) {
+        match random.below(7) {
             0 | 1 => store[2 * 212..3 * 212].fill(0), // the ticket is not stored
             2 => store[2 * 212 + random.below(212)] ^= 1 << random.below(8),
+            3 => store[212..424].fill(0), // the ticket's issuer is not stored
             _ => (),
         }
         let mut message = example::with_certificate();

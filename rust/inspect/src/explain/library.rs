@@ -6,6 +6,7 @@ use crate::reading::Reading;
 use crate::store::{first_broken, layout};
 use crate::verdict;
 
+const BAD_STORE: u8 = 2;
 const STORE_LENGTH: usize = layout::SLOTS * layout::SLOT_LENGTH;
 
 pub fn store_length(steps: &mut Steps, store: &[u8]) -> Result<(), u8> {
@@ -14,29 +15,39 @@ pub fn store_length(steps: &mut Steps, store: &[u8]) -> Result<(), u8> {
 }
 
 pub fn store_is_valid(steps: &mut Steps, store: &[u8]) -> Result<(), u8> {
-    let valid = verdict::store(store) == 0;
-    let rule = match (valid, first_broken(store)) {
-        (true, None) => String::new(),
-        (false, Some(broken)) => format!("; octet {}: {}", broken.offset(), broken.rule),
-        (_, broken) => does_not_fit(verdict::store(store), 2 * u8::from(broken.is_some())),
+    let library = verdict::store(store);
+    let broken = first_broken(store);
+    let own = if broken.is_some() { BAD_STORE } else { 0 };
+    let rule = match broken {
+        _ if own != library => does_not_fit(library, own),
+        Some(broken) => format!("; octet {}: {}", broken.offset(), broken.rule),
+        None => String::new(),
     };
     let text = format!("the store is valid, says the library{rule}");
-    steps.test(2, valid, text)
+    let tested = steps.test(BAD_STORE, library == 0, text);
+    if_fits(tested, library, own)
 }
 
 /// `what` reads, by the library's number.
 pub fn reads<T>(steps: &mut Steps, what: &str, library: u8, own: &Reading<T>) -> Result<(), u8> {
     let fault = match &own.outcome {
-        Err(fault) if fault.number == library => {
-            format!("; octet {}: {}", fault.offset, fault.reason)
-        }
-        _ if own.number() == library => String::new(),
-        _ => does_not_fit(library, own.number()),
+        _ if own.number() != library => does_not_fit(library, own.number()),
+        Err(fault) => format!("; octet {}: {}", fault.offset, fault.reason),
+        Ok(_) => String::new(),
     };
-    steps.reading(
-        library,
-        format!("the {what} reads, says the library{fault}"),
-    )
+    let text = format!("the {what} reads, says the library{fault}");
+    let tested = steps.reading(library, text);
+    if_fits(tested, library, own.number())
+}
+
+/// An explanation whose own reading does not fit ends there with its own
+/// number, so that it cannot arrive at the library's by the library's answer.
+fn if_fits(tested: Result<(), u8>, library: u8, own: u8) -> Result<(), u8> {
+    if own == library {
+        tested
+    } else {
+        Err(own)
+    }
 }
 
 fn does_not_fit(library: u8, own: u8) -> String {
@@ -54,14 +65,15 @@ mod tests {
         let mut steps = Steps::default();
         let own = reading::certificate(&[2, 0, 3]);
         let answer = reads(&mut steps, "certificate", library, &own);
-        assert_eq!(answer.err().unwrap_or(0), library);
+        assert_eq!(answer, Err(6)); // what this reading arrives at
         match steps.lines.pop() {
             Some(Line::Test { text, .. }) => text,
             line => panic!("no test: {line:?}"),
         }
     }
 
-    /// The number is the library's; a place is given only where both agree.
+    /// A place is given only where both agree, and an explanation that goes on
+    /// from a reading that does not fit arrives at another number.
     #[test]
     fn the_library_answers() {
         assert!(text(6).contains("; octet 2: "));
