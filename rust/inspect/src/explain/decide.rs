@@ -15,7 +15,7 @@ use crate::verdict;
 
 const LONGEST_AGE: u64 = 600_000_000;
 /// What an age of 0 stands for.
-const DEFAULT_AGE: u64 = 2_000_000;
+pub const DEFAULT_AGE: u64 = 2_000_000;
 const MICROSECONDS: u64 = 1_000_000;
 const TICKET: u8 = 1;
 const GOOD: u8 = 1;

@@ -12,7 +12,7 @@ mod walk;
 mod withdrawal;
 
 pub use admission::{admit, install};
-pub use decide::{decide, Case};
+pub use decide::{decide, Case, DEFAULT_AGE};
 pub use steps::{Line, Steps};
 pub use withdrawal::{list, withdraw, Falling};
 

@@ -3,7 +3,7 @@
 use nattveldi::{Decision, Question};
 
 use super::{octets, Lines, Page};
-use crate::explain::{self, Case};
+use crate::explain::{self, Case, DEFAULT_AGE};
 use crate::text::{degrees, hex, name, time};
 use crate::verdict;
 
@@ -50,12 +50,11 @@ impl Lines {
         self.label("now", &format!("{}{}", time::microsecond(s.now), given.now));
         let place = degrees::place(s.latitude, s.longitude);
         self.label("position", &format!("{place}{}", given.position));
-        let meaning = if s.age == 0 {
-            ", which stands for 2 seconds"
-        } else {
-            ""
+        let age = match s.age {
+            0 => format!("0 microseconds, which stands for {DEFAULT_AGE}"),
+            age => format!("{age} microseconds"),
         };
-        self.label("age", &format!("{} microseconds{meaning}", s.age));
+        self.label("age", &age);
         let verdicts = format!(
             "message {}, certificate {} (inputs: no signature is checked here)",
             case.verdict, case.certificate_verdict

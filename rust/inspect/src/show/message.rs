@@ -24,6 +24,8 @@ impl Lines {
     /// The places are this tool's reading, the id of a certificate at its place
     /// is the library's.
     fn message_parts(&mut self, given: &[u8], message: &Message) {
+        let whose = "(this tool's own reading; the id of a certificate is the library's)";
+        self.label("parts", whose);
         match &message.signer {
             Signer::Id(id) => self.label("signer", &format!("by id, {}", hex::text(id))),
             Signer::Certificate(range) => {
