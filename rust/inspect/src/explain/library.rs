@@ -1,0 +1,85 @@
+//! Tests that the library answers: whether a store is valid, and whether octets
+//! read. The place and reason of a fault are this tool's own reading.
+
+use super::steps::Steps;
+use crate::reading::Reading;
+use crate::store::{first_broken, layout};
+use crate::verdict;
+
+const BAD_STORE: u8 = 2;
+const STORE_LENGTH: usize = layout::SLOTS * layout::SLOT_LENGTH;
+
+pub fn store_length(steps: &mut Steps, store: &[u8]) -> Result<(), u8> {
+    let text = format!("the store has {STORE_LENGTH} octets: {}", store.len());
+    steps.test(1, store.len() == STORE_LENGTH, text)
+}
+
+pub fn store_is_valid(steps: &mut Steps, store: &[u8]) -> Result<(), u8> {
+    let library = verdict::store(store);
+    let broken = first_broken(store);
+    let own = if broken.is_some() { BAD_STORE } else { 0 };
+    let rule = match broken {
+        _ if own != library => does_not_fit(library, own),
+        Some(broken) => format!("; octet {}: {}", broken.offset(), broken.rule),
+        None => String::new(),
+    };
+    let text = format!("the store is valid, says the library{rule}");
+    let tested = steps.test(BAD_STORE, library == 0, text);
+    if_fits(tested, library, own)
+}
+
+/// `what` reads, by the library's number.
+pub fn reads<T>(steps: &mut Steps, what: &str, library: u8, own: &Reading<T>) -> Result<(), u8> {
+    let fault = match &own.outcome {
+        _ if own.number() != library => does_not_fit(library, own.number()),
+        Err(fault) => format!("; octet {}: {}", fault.offset, fault.reason),
+        Ok(_) => String::new(),
+    };
+    let text = format!("the {what} reads, says the library{fault}");
+    let tested = steps.reading(library, text);
+    if_fits(tested, library, own.number())
+}
+
+/// An explanation whose own reading does not fit ends there with its own
+/// number, so that it cannot arrive at the library's by the library's answer.
+fn if_fits(tested: Result<(), u8>, library: u8, own: u8) -> Result<(), u8> {
+    if own == library {
+        tested
+    } else {
+        Err(own)
+    }
+}
+
+fn does_not_fit(library: u8, own: u8) -> String {
+    let unfit = verdict::unfit("this tool's own reading", library, own);
+    format!("; {}", unfit.unwrap_or_default())
+}
+
+#[cfg(test)]
+mod tests {
+    use super::*;
+    use crate::explain::Line;
+    use crate::reading;
+
+    fn text(library: u8) -> String {
+        let mut steps = Steps::default();
+        let own = reading::certificate(&[2, 0, 3]);
+        let answer = reads(&mut steps, "certificate", library, &own);
+        assert_eq!(answer, Err(6)); // what this reading arrives at
+        match steps.lines.pop() {
+            Some(Line::Test { text, .. }) => text,
+            line => panic!("no test: {line:?}"),
+        }
+    }
+
+    /// A place is given only where both agree, and an explanation that goes on
+    /// from a reading that does not fit arrives at another number.
+    #[test]
+    fn the_library_answers() {
+        assert!(text(6).contains("; octet 2: "));
+        for library in [0, 5] {
+            assert!(text(library).contains("DOES NOT FIT"));
+            assert!(!text(library).contains("octet 2"));
+        }
+    }
+}

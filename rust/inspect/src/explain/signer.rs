@@ -1,0 +1,54 @@
+//! The signer of a message: 8 and 9 for a certificate that it brings, 7 for an
+//! id that it names.
+
+use std::ops::Range;
+
+use super::steps::Steps;
+use crate::reading::{Message, Signer};
+use crate::store::{Record, Slots, WITHDRAWN};
+use crate::text::hex;
+
+pub fn signer(
+    steps: &mut Steps,
+    slots: &Slots,
+    octets: &[u8],
+    message: &Message,
+) -> Result<Record, u8> {
+    match &message.signer {
+        Signer::Id(id) => named(steps, slots, id),
+        Signer::Certificate(range) => carried(steps, slots, octets, range),
+    }
+}
+
+fn named(steps: &mut Steps, slots: &Slots, id: &[u8; 8]) -> Result<Record, u8> {
+    let found = slots.find(id);
+    let place = found.map_or("it is not".to_string(), |(slot, _)| format!("slot {slot}"));
+    let text = format!("the signer {} is stored: {place}", hex::text(id));
+    steps.test(7, found.is_some(), text)?;
+    found.map(|(_, record)| record.clone()).ok_or(7)
+}
+
+/// Its fields and its id are the library's.
+fn carried(
+    steps: &mut Steps,
+    slots: &Slots,
+    octets: &[u8],
+    range: &Range<usize>,
+) -> Result<Record, u8> {
+    let certificate = &octets[range.clone()];
+    let fields = nattveldi::read(certificate).map_err(|refusal| refusal.number())?;
+    let id = nattveldi::id(certificate).map_err(|refusal| refusal.number())?;
+    let record = Record::from_certificate(certificate, id, &fields);
+    steps.note(format!("the message brings {}", record.title()));
+    let Some((slot, stored)) = slots.find(&record.id) else {
+        steps.note("its id is not stored, so there is no copy to compare (8, 9)");
+        return Ok(record);
+    };
+    let text = format!("slot {slot} has its id, and is not withdrawn");
+    steps.test(8, stored.state != WITHDRAWN, text)?;
+    let difference = record.difference(stored);
+    let words = difference.map_or(String::new(), |field| format!("; {field} differs"));
+    let text = format!("slot {slot} holds the same fields{words}");
+    steps.test(9, difference.is_none(), text)?;
+    Ok(record)
+}

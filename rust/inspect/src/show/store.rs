@@ -1,0 +1,66 @@
+//! A store, slot by slot.
+
+use super::{Lines, Page};
+use crate::store::layout::SLOTS;
+use crate::store::{first_broken, Slots};
+use crate::text::time;
+use crate::verdict;
+
+const BAD_CALL: u8 = 1;
+const BAD_STORE: u8 = 2;
+
+/// `at` is a second for which the library is asked what stands.
+pub fn store(source: String, given: &[u8], at: Option<u32>) -> Page {
+    let number = verdict::store(given);
+    let mut lines = Lines::about(&[format!("store: {source}")]);
+    match number {
+        0 => lines.label("verdict", "a valid store"),
+        _ => lines.label("verdict", &verdict::sentence(number)),
+    }
+    if number == BAD_CALL || !lines.fits(given, number) {
+        return lines.page(number);
+    }
+    let slots = Slots::of(given);
+    let counts = format!("{} filled, {} empty", slots.count(), SLOTS - slots.count());
+    lines.label("slots", &counts);
+    if let Some(second) = at {
+        lines.label(
+            "standing",
+            &format!("asked for {}", time::second(second.into())),
+        );
+    }
+    lines.plain("");
+    lines.plain("octet.bit  bits  field");
+    for (slot, record) in slots.iter() {
+        let stands = |second| verdict::stands(given, slot, &record.id, second);
+        let words = match at.filter(|_| number == 0).map(stands) {
+            None => "",
+            Some(true) => ", stands",
+            Some(false) => ", does not stand",
+        };
+        lines.slot(slot, record, words);
+    }
+    lines.page(number)
+}
+
+impl Lines {
+    /// The rule that a bad store breaks first, by this tool's own reading, and
+    /// whether that reading fits the library's verdict.
+    fn fits(&mut self, given: &[u8], library: u8) -> bool {
+        let broken = first_broken(given);
+        let own = if broken.is_some() { BAD_STORE } else { 0 };
+        if let Some(unfit) = verdict::unfit("this tool's own reading", library, own) {
+            self.label("layout", &unfit);
+            self.label("", "No slots are given.");
+            return false;
+        }
+        if let Some(broken) = broken {
+            let (slot, rule) = (broken.slot, &broken.rule);
+            let (offset, bit) = (broken.offset(), broken.bit % 8);
+            let words = format!("at octet {offset}, bit {bit}, of slot {slot}: {rule}");
+            self.label("fault", &words);
+            self.label("", "(place and reason: this tool's own reading, which arrives at 2 as the library does)");
+        }
+        true
+    }
+}

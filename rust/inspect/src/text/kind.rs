@@ -1,0 +1,24 @@
+//! Kinds of certificates.
+
+/// The project's word.
+pub fn word(kind: u8) -> &'static str {
+    match kind {
+        1 => "ticket",
+        2 => "authority",
+        4 => "root",
+        _ => "no kind that is read",
+    }
+}
+
+/// SubjectType (001, clause 6.3).
+pub fn standard(kind: u8) -> &'static str {
+    match kind {
+        0 => "enrollment_credential",
+        1 => "authorization_ticket",
+        2 => "authorization_authority",
+        3 => "enrollment_authority",
+        4 => "root_ca",
+        5 => "crl_signer",
+        _ => "not in the standard",
+    }
+}

@@ -1,0 +1,3 @@
+//! The version that `--version` prints: the library's.
+
+pub use nattveldi::VERSION;
