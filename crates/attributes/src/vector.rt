@@ -1,7 +1,7 @@
 ghost use mathlib.Core.Path.{_≡_};
 ghost use lib.ListN.{length, getD};
 ghost use lib.Dec.{leb};
-ghost use Rattle.octets.specs.Reading.{got, refused, bind, need};
+ghost use Rattle.octets.specs.Reading.{got, bind, need};
 ghost use Rattle.octets.specs.Vectors.{placeOf};
 ghost use Rattle.attributes.specs.Points.{pointOf};
 ghost use Rattle.attributes.specs.Assurances.{assuranceOf};
@@ -72,15 +72,6 @@ pub fn no_attributes() -> Attributes
             level: 0,
         },
         permissions: no_permissions(),
-    }
-}
-
-pub fn attributes_refused(n: u8) -> AttributesRead
-    ensures { λ r. ⌜ attributesOf r ≡ refused n ⌝ }
-{
-    AttributesRead {
-        outcome: Next::Refused(n),
-        attributes: no_attributes(),
     }
 }
 

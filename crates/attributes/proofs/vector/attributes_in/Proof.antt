@@ -19,7 +19,7 @@ use borrow.Author.Needs.{needs}
 use lib.Dec.{leb, eqb}
 use lib.ListN.{length, getD}
 use mathlib.Core.List.{List}
-use mathlib.Core.Path.{_≡_, sym, _∙_, ap}
+use mathlib.Core.Path.{_≡_, _∙_, ap}
 use Rattle.attributes.proofs.vector.attributes_in.Statement.{statement}
 use Rattle.attributes.proofs.vector.attributes_in.Tie as tie
 
