@@ -1,6 +1,15 @@
 ghost use mathlib.Core.Path.{_≡_};
-ghost use Rattle.octets.specs.Reading.{got, refused};
-ghost use Rattle.attributes.specs.Permissions.{permissionOf, sspAt, permissionAt, none, permissionsOf, permissionsIn, listAt};
+ghost use mathlib.Core.List.{[]};
+ghost use Prim.Native.Nat.{_+_};
+ghost use lib.ListN.{length};
+ghost use Rattle.octets.specs.Reading.{got, bind, pick};
+ghost use Rattle.octets.specs.Numbers.{intxAt};
+ghost use Rattle.octets.specs.Vectors.{spanOf, spanAt, placeOf};
+ghost use Rattle.octets.specs.Elements.{announces};
+ghost use Rattle.octets.specs.Items.{itemsFrom, padded};
+ghost use Rattle.attributes.specs.Permissions.{permissionOf, sspAt, permissionAt, unused, mostPermissions, none, permissionsOf, listAt};
+use crate::spans::end_of;
+use crate::spans::start_of;
 use octets::elements::announced;
 use octets::items::overfull;
 use octets::numbers::Number;
@@ -98,18 +107,9 @@ pub fn no_permissions() -> Permissions
     }
 }
 
-fn permissions_refused(n: u8) -> PermissionsRead
-    ensures { λ r. ⌜ permissionsOf r ≡ refused n ⌝ }
-{
-    PermissionsRead {
-        outcome: Next::Refused(n),
-        permissions: no_permissions(),
-    }
-}
-
 // The permissions from a position to the end: at most sixteen.
-fn permissions_in(s: &[u8], start: usize, ssp: bool) -> PermissionsRead
-    ensures { λ r. ⌜ permissionsOf r ≡ permissionsIn ssp (now (s .entry)) start ⌝ }
+fn permissions_in(s: &[u8], start: usize, ssp: bool, given: bool) -> PermissionsRead
+    ensures { λ r. ⌜ permissionsOf r ≡ bind (itemsFrom (permissionAt ssp) intxAt mostPermissions [] (now (s .entry)) start) (λ ps next. got (record { given = given; count = length ps; values = padded 16 unused ps }) next) ⌝ }
 {
     let mut values = [Permission {
         aid: 0,
@@ -120,36 +120,52 @@ fn permissions_in(s: &[u8], start: usize, ssp: bool) -> PermissionsRead
     }; 16];
     let mut count = 0;
     let mut at = start;
+    let mut outcome = Next::At(start);
     while at < s.len() {
         if count == 16 {
-            return permissions_refused(overfull(intx_at(s, at)));
+            outcome = Next::Refused(overfull(intx_at(s, at)));
+            break;
         }
         match permission_at(s, at, ssp) {
-            PermissionRead::Refused(n) => return permissions_refused(n),
+            PermissionRead::Refused(n) => {
+                outcome = Next::Refused(n);
+                break;
+            }
             PermissionRead::Value { permission, next } => {
                 values[count] = permission;
                 count += 1;
                 at = next;
+                outcome = Next::At(next);
             }
         }
     }
     PermissionsRead {
-        outcome: Next::At(at),
+        outcome,
         permissions: Permissions {
-            given: true,
+            given,
             count,
             values,
         },
     }
 }
 
-// No list, and the same position.
-fn no_list(at: usize) -> PermissionsRead
-    ensures { λ r. ⌜ permissionsOf r ≡ got none at ⌝ }
+// Where the list of a type stands; where another type stands, none does.
+fn list_span(s: &[u8], at: usize, kind: u8) -> Span
+    ensures { λ r. ⌜ spanOf r ≡ pick (announces kind (now (s .entry)) at) (spanAt (now (s .entry)) (at + 1)) (got at 0) ⌝ }
 {
-    PermissionsRead {
-        outcome: Next::At(at),
-        permissions: no_permissions(),
+    if !announced(s, at, kind) {
+        return Span::Within { start: at, end: 0 };
+    }
+    span_at(s, at + 1)
+}
+
+// The outcome of what stands in a span.
+fn outcome_in(span: Span, inner: Next) -> Next
+    ensures { λ r. ⌜ placeOf r ≡ bind (spanOf span) (λ start end. placeOf inner) ⌝ }
+{
+    match span {
+        Span::Within { start: _, end: _ } => inner,
+        Span::Refused(n) => Next::Refused(n),
     }
 }
 
@@ -157,11 +173,14 @@ fn no_list(at: usize) -> PermissionsRead
 pub fn list_at(s: &[u8], at: usize, kind: u8, ssp: bool) -> PermissionsRead
     ensures { λ r. ⌜ permissionsOf r ≡ listAt kind ssp (now (s .entry)) at ⌝ }
 {
-    if !announced(s, at, kind) {
-        return no_list(at);
-    }
-    match span_at(s, at + 1) {
-        Span::Refused(n) => permissions_refused(n),
-        Span::Within { start, end } => permissions_in(&s[..end], start, ssp),
+    let given = announced(s, at, kind);
+    let span = list_span(s, at, kind);
+    let end = end_of(span);
+    let list = permissions_in(&s[..end], start_of(span), ssp, given);
+    let outcome = list.outcome;
+    let permissions = list.permissions;
+    PermissionsRead {
+        outcome: outcome_in(span, outcome),
+        permissions,
     }
 }

@@ -1,5 +1,10 @@
 ghost use mathlib.Core.Path.{_≡_};
-ghost use Rattle.octets.specs.Reading.{refused};
+ghost use lib.ListN.{length, getD};
+ghost use lib.Dec.{leb};
+ghost use Rattle.octets.specs.Reading.{got, bind, need};
+ghost use Rattle.octets.specs.Vectors.{placeOf};
+ghost use Rattle.attributes.specs.Points.{pointOf};
+ghost use Rattle.attributes.specs.Assurances.{assuranceOf};
 ghost use Rattle.attributes.specs.Vector.{listType, strayOf, unknown, attributesOf, attributesIn, completeAttributes};
 use crate::assurances::Assurance;
 use crate::assurances::AssuranceRead;
@@ -70,56 +75,58 @@ pub fn no_attributes() -> Attributes
     }
 }
 
-pub fn attributes_refused(n: u8) -> AttributesRead
-    ensures { λ r. ⌜ attributesOf r ≡ refused n ⌝ }
+// The outcome of the reads in their order, and nothing may stand after them.
+fn outcome_of(
+    s: &[u8],
+    key: PointRead,
+    encryption: PointRead,
+    assurance: AssuranceRead,
+    list: Next,
+) -> Next
+    ensures { λ r. ⌜ placeOf r ≡ bind (pointOf key) (λ k a. bind (pointOf encryption) (λ e b. bind (assuranceOf assurance) (λ v c. bind (placeOf list) (λ z d. need (strayOf (getD (now (s .entry)) d 0)) (leb (length (now (s .entry))) d) (got z d))))) ⌝ }
 {
-    AttributesRead {
-        outcome: Next::Refused(n),
-        attributes: no_attributes(),
+    let PointRead::Value { point: _, next: _ } = key else {
+        return Next::Refused(key.refusal());
+    };
+    let PointRead::Value { point: _, next: _ } = encryption else {
+        return Next::Refused(encryption.refusal());
+    };
+    let AssuranceRead::Value {
+        assurance: _,
+        next: _,
+    } = assurance
+    else {
+        return Next::Refused(assurance.refusal());
+    };
+    let Next::At(d) = list else {
+        return Next::Refused(list.refusal());
+    };
+    if d < s.len() {
+        return Next::Refused(stray(s[d]));
     }
+    Next::At(d)
 }
 
-// The attributes of a certificate of a kind, from a position to the end: ascending, each once.
+// The attributes of a certificate of a kind, from a position to the end: ascending, each once. After a refusal the rest is
+// read at the end, where nothing stands.
 pub fn attributes_in(s: &[u8], at: usize, kind: u8) -> AttributesRead
     ensures { λ r. ⌜ attributesOf r ≡ attributesIn kind (now (s .entry)) at ⌝ }
 {
-    let first = verification_key_at(s, at);
-    let PointRead::Value {
-        point: key,
-        next: a,
-    } = first
-    else {
-        return attributes_refused(first.refusal());
-    };
-    let second = encryption_key_at(s, a);
-    let PointRead::Value {
-        point: encryption,
-        next: b,
-    } = second
-    else {
-        return attributes_refused(second.refusal());
-    };
-    let third = assurance_at(s, b);
-    let AssuranceRead::Value { assurance, next: c } = third else {
-        return attributes_refused(third.refusal());
-    };
-    let list = list_at(s, c, list_type(kind), kind == 1);
+    let key = verification_key_at(s, at);
+    let encryption = encryption_key_at(s, key.next(s.len()));
+    let assurance = assurance_at(s, encryption.next(s.len()));
+    let list = list_at(s, assurance.next(s.len()), list_type(kind), kind == 1);
     let outcome = list.outcome;
-    let Next::At(d) = outcome else {
-        return attributes_refused(outcome.refusal());
-    };
-    if d < s.len() {
-        return attributes_refused(stray(s[d]));
-    }
     let permissions = list.permissions;
+    let attributes = Attributes {
+        key: key.point(),
+        encryption: encryption.point(),
+        assurance: assurance.assurance(),
+        permissions,
+    };
     AttributesRead {
-        outcome: Next::At(d),
-        attributes: Attributes {
-            key,
-            encryption,
-            assurance,
-            permissions,
-        },
+        outcome: outcome_of(s, key, encryption, assurance, outcome),
+        attributes,
     }
 }
 

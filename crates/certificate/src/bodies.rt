@@ -1,10 +1,13 @@
 ghost use mathlib.Core.Path.{_≡_};
+ghost use Rattle.octets.specs.Reading.{got, bind};
+ghost use Rattle.octets.specs.Vectors.{spanOf, placeOf};
 ghost use Rattle.attributes.specs.Vector.{attributesOf};
 ghost use Rattle.restrictions.specs.Vector.{restrictionsOf};
 ghost use Rattle.certificate.specs.Bodies.{attributesAt, restrictionsAt};
+use attributes::spans::end_of;
+use attributes::spans::start_of;
 use attributes::vector::AttributesRead;
 use attributes::vector::attributes_in;
-use attributes::vector::attributes_refused;
 use octets::refusals::MALFORMED;
 use octets::vectors::Next;
 use octets::vectors::Span;
@@ -13,26 +16,31 @@ use restrictions::vector::RestrictionsRead;
 use restrictions::vector::restrictions_in;
 use restrictions::vector::restrictions_refused;
 
-// The attribute vector of a certificate of a kind.
+// The outcome of a vector: where it ends, if what stands in it was read.
+fn outcome_of(span: Span, inner: Next) -> Next
+    ensures { λ r. ⌜ placeOf r ≡ bind (spanOf span) (λ start end. bind (placeOf inner) (λ z next. got z end)) ⌝ }
+{
+    match span {
+        Span::Refused(n) => Next::Refused(n),
+        Span::Within { start: _, end } => match inner {
+            Next::Refused(n) => Next::Refused(n),
+            Next::At(_) => Next::At(end),
+        },
+    }
+}
+
+// The attribute vector of a certificate of a kind. Where its length is refused, no octets are read.
 pub fn attributes_at(s: &[u8], at: usize, kind: u8) -> AttributesRead
     ensures { λ r. ⌜ attributesOf r ≡ attributesAt kind (now (s .entry)) at ⌝ }
 {
-    match span_at(s, at) {
-        Span::Refused(n) => attributes_refused(n),
-        Span::Within { start, end } => {
-            let read = attributes_in(&s[..end], start, kind);
-            let outcome = read.outcome;
-            match outcome {
-                Next::Refused(n) => attributes_refused(n),
-                Next::At(_) => {
-                    let attributes = read.attributes;
-                    AttributesRead {
-                        outcome: Next::At(end),
-                        attributes,
-                    }
-                }
-            }
-        }
+    let span = span_at(s, at);
+    let end = end_of(span);
+    let read = attributes_in(&s[..end], start_of(span), kind);
+    let outcome = read.outcome;
+    let attributes = read.attributes;
+    AttributesRead {
+        outcome: outcome_of(span, outcome),
+        attributes,
     }
 }
 

@@ -1,5 +1,6 @@
 ghost use mathlib.Core.Path.{_≡_};
 ghost use Rattle.octets.specs.Reading.{refused};
+ghost use Rattle.attributes.specs.Vector.{unknown};
 ghost use Rattle.certificate.specs.Certificates.{blank, certificateOf, certificateAt};
 use crate::bodies::attributes_at;
 use crate::bodies::restrictions_at;
@@ -33,9 +34,9 @@ pub struct CertificateRead {
     pub certificate: Certificate,
 }
 
-// The certificate of a refusal: all values are zero.
-pub fn no_certificate() -> Certificate
-    ensures { λ r. ⌜ r ≡ blank ⌝ }
+// These attributes, and zero for all other values.
+fn nothing_but(attributes: Attributes) -> Certificate
+    ensures { λ r. ⌜ (attributes ≡ unknown → r ≡ blank) ⌝ }
 {
     let nowhere = Part {
         start: 0,
@@ -50,7 +51,7 @@ pub fn no_certificate() -> Certificate
             kind: 0,
             name: nowhere,
         },
-        attributes: no_attributes(),
+        attributes,
         restrictions: no_restrictions(),
         signed: nowhere,
         signature: Signature {
@@ -60,38 +61,48 @@ pub fn no_certificate() -> Certificate
     }
 }
 
-pub fn certificate_refused(n: u8) -> CertificateRead
+// The certificate of a refusal: all values are zero.
+pub fn no_certificate() -> Certificate
+    ensures { λ r. ⌜ r ≡ blank ⌝ }
+{
+    nothing_but(no_attributes())
+}
+
+// A refusal. It takes the attributes that are there, so that none are made for it.
+fn stopped(n: u8, attributes: Attributes) -> CertificateRead
     ensures { λ r. ⌜ certificateOf r ≡ refused n ⌝ }
 {
     CertificateRead {
         outcome: Next::Refused(n),
-        certificate: no_certificate(),
+        certificate: nothing_but(attributes),
     }
 }
 
-// The certificate that stands at a position of a container, up to its signature.
+// The certificate that stands at a position of a container, up to its signature. After a head that was refused, attributes are
+// looked for at the end, where there are none.
 pub fn certificate_at(s: &[u8], at: usize) -> CertificateRead
     ensures { λ r. ⌜ certificateOf r ≡ certificateAt (now (s .entry)) at ⌝ }
 {
     let first = head_at(s, at);
-    let HeadRead::Value { head, next: a } = first else {
-        return certificate_refused(first.refusal());
+    let second = attributes_at(s, first.next(s.len()), first.kind());
+    let attributes = second.attributes;
+    let lacks_none = complete(attributes);
+    let HeadRead::Value { head, next: _ } = first else {
+        return stopped(first.refusal(), attributes);
     };
-    let second = attributes_at(s, a, head.kind);
     let outcome = second.outcome;
     let Next::At(b) = outcome else {
-        return certificate_refused(outcome.refusal());
+        return stopped(outcome.refusal(), attributes);
     };
-    let attributes = second.attributes;
-    let third = restrictions_at(s, b, complete(attributes));
+    let third = restrictions_at(s, b, lacks_none);
     let outcome = third.outcome;
     let Next::At(c) = outcome else {
-        return certificate_refused(outcome.refusal());
+        return stopped(outcome.refusal(), attributes);
     };
     let restrictions = third.restrictions;
     let fourth = signature_at(s, c, restrictions.period.given);
     let SignatureRead::Value { signature, next } = fourth else {
-        return certificate_refused(fourth.refusal());
+        return stopped(fourth.refusal(), attributes);
     };
     CertificateRead {
         outcome: Next::At(next),

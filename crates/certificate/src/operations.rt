@@ -1,10 +1,12 @@
 ghost use mathlib.Core.Path.{_≡_};
-ghost use Rattle.certificate.specs.Certificates.{certificateOf};
-ghost use Rattle.certificate.specs.Operations.{whole, readingOf, idOf};
+ghost use lib.ListN.{length};
+ghost use lib.Dec.{leb};
+ghost use Rattle.octets.specs.Refusals.{TOO-LONG, MALFORMED};
+ghost use Rattle.octets.specs.Reading.{got, bind, need};
+ghost use Rattle.octets.specs.Vectors.{placeOf};
+ghost use Rattle.certificate.specs.Operations.{readingOf, idOf};
 use crate::certificates::Certificate;
-use crate::certificates::CertificateRead;
 use crate::certificates::certificate_at;
-use crate::certificates::certificate_refused;
 use crate::certificates::no_certificate;
 use octets::refusals::ACCEPTED;
 use octets::refusals::MALFORMED;
@@ -24,22 +26,20 @@ pub struct Identified {
     pub id: [u8; 8],
 }
 
-// The certificate that is the whole input, of at most 1,024 octets.
-fn whole_input(s: &[u8]) -> CertificateRead
-    ensures { λ r. ⌜ certificateOf r ≡ whole (now (s .entry)) ⌝ }
+// The outcome of a certificate that is to be the whole input, of at most 1,024 octets.
+fn whole_input(s: &[u8], found: Next) -> Next
+    ensures { λ r. ⌜ placeOf r ≡ need TOO-LONG (leb (length (now (s .entry))) 1024) (bind (placeOf found) (λ z end. need MALFORMED (leb (length (now (s .entry))) end) (got z end))) ⌝ }
 {
     if 1024 < s.len() {
-        return certificate_refused(TOO_LONG);
+        return Next::Refused(TOO_LONG);
     }
-    let found = certificate_at(s, 0);
-    let outcome = found.outcome;
-    match outcome {
-        Next::Refused(n) => certificate_refused(n),
+    match found {
+        Next::Refused(n) => Next::Refused(n),
         Next::At(end) => {
             if end < s.len() {
-                return certificate_refused(MALFORMED);
+                return Next::Refused(MALFORMED);
             }
-            found
+            Next::At(end)
         }
     }
 }
@@ -48,20 +48,19 @@ fn whole_input(s: &[u8]) -> CertificateRead
 pub fn read(s: &[u8]) -> Reading
     ensures { λ r. ⌜ r ≡ readingOf (now (s .entry)) ⌝ }
 {
-    let found = whole_input(s);
-    let outcome = found.outcome;
-    match outcome {
-        Next::Refused(n) => Reading {
-            number: n,
+    let found = certificate_at(s, 0);
+    let place = found.outcome;
+    let outcome = whole_input(s, place);
+    let Next::At(_) = outcome else {
+        return Reading {
+            number: outcome.refusal(),
             certificate: no_certificate(),
-        },
-        Next::At(_) => {
-            let certificate = found.certificate;
-            Reading {
-                number: ACCEPTED,
-                certificate,
-            }
-        }
+        };
+    };
+    let certificate = found.certificate;
+    Reading {
+        number: ACCEPTED,
+        certificate,
     }
 }
 
@@ -69,8 +68,9 @@ pub fn read(s: &[u8]) -> Reading
 pub fn id(s: &[u8]) -> Identified
     ensures { λ r. ⌜ r ≡ idOf (now (s .entry)) ⌝ }
 {
-    let found = whole_input(s);
-    let outcome = found.outcome;
+    let found = certificate_at(s, 0);
+    let place = found.outcome;
+    let outcome = whole_input(s, place);
     match outcome {
         Next::Refused(n) => Identified {
             number: n,

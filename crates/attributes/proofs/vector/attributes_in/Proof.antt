@@ -1,93 +1,81 @@
 -- `attributes::vector::attributes_in` meets its contract: the definition is followed read by read. Assumes nothing.
 use Prim.Native.Nat.{ℕ}
-use Rattle.attributes.specs.Assurances.{assuranceOf}
+use Rattle.attributes.proofs.Outcomes.{valued, read-on, read-last}
+use Rattle.attributes.specs.Assurances.{assuranceOf, assuranceAt}
+use Rattle.attributes.specs.Keys.{verificationKeyAt, encryptionKeyAt}
+use Rattle.attributes.specs.Permissions.{listAt}
 use Rattle.attributes.specs.Points.{pointOf}
-use Rattle.attributes.specs.Vector.{attributesSteps, attributesIn}
-use Rattle.octets.proofs.Laws.{was, wasOut, then, stop, pass, fail, refused-by, Left}
-use Rattle.octets.specs.Reading.{refused}
-use Rattle.octets.specs.Vectors.{placeOf}
-use borrow.Author.Tests.{le-leb, lt-leb}
-use mathlib.Core.Path.{sym, _∙_, ap}
+use Rattle.attributes.specs.Vector.{listType, strayOf, attributesIn}
+use Rattle.attributes.specs.declared.assurances.Assurance.{Assurance}
+use Rattle.attributes.specs.declared.assurances.AssuranceRead.{AssuranceRead}
+use Rattle.attributes.specs.declared.permissions.Permissions.{Permissions}
+use Rattle.attributes.specs.declared.points.Point.{Point}
+use Rattle.attributes.specs.declared.points.PointRead.{PointRead}
+use Rattle.attributes.specs.declared.vector.Attributes.{Attributes}
+use Rattle.octets.specs.Reading.{Out, got, bind, need}
+use Rattle.octets.specs.Vectors.{outOf, placeOf}
+use Rattle.octets.specs.declared.vectors.Next.{Next}
 use borrow.Author.Needs.{needs}
+use lib.Dec.{leb, eqb}
+use lib.ListN.{length, getD}
+use mathlib.Core.List.{List}
+use mathlib.Core.Path.{_≡_, _∙_, ap}
 use Rattle.attributes.proofs.vector.attributes_in.Statement.{statement}
 use Rattle.attributes.proofs.vector.attributes_in.Tie as tie
 
--- what is left of the definition after each read
-abbrev with-key : (c : tie.After-known-told) → let a = c .before .before .before .before .before .args in Left (attributesSteps (a .kind) (a .s .now) (a .at))
-with-key c = record { rest = _; so = then (was pointOf (c .before .before .before .verification-key-at .ensures) (c .before .first .given .1)) _ }
+module _ (kind : ℕ) (s : List ℕ) where
+  -- what is left of the definition after each read
+  abbrev after-list : Point → Point → Assurance → Permissions → ℕ → Out Attributes
+  after-list k e v permissions d =
+      need (strayOf (getD s d 0)) (leb (length s) d) (got (record { key = k; encryption = e; assurance = v; permissions = permissions }) d)
 
-abbrev with-encryption : (c : tie.After-known-told2) → let a = c .before .before .before .before .before .before .before .before .before .args in Left (attributesSteps (a .kind) (a .s .now) (a .at))
-with-encryption c =
-    record { rest = _; so = with-key (c .before .before .before .before) .so ∙ then (was pointOf (c .before .before .before .encryption-key-at .ensures) (c .before .second .given .1)) _ }
+  abbrev after-assurance : Point → Point → Assurance → ℕ → Out Attributes
+  after-assurance k e v c = bind (listAt (listType kind) (eqb kind 1) s c) (after-list k e v)
 
-abbrev with-assurance : (c : tie.After-known-told3) → let a = c .before .before .before .before .before .before .before .before .before .before .before .before .before .args in Left (attributesSteps (a .kind) (a .s .now) (a .at))
-with-assurance c =
-    record { rest = _; so = with-encryption (c .before .before .before .before) .so ∙ then (was assuranceOf (c .before .before .before .assurance-at .ensures) (c .before .third .given .1)) _ }
+  abbrev after-encryption : Point → Point → ℕ → Out Attributes
+  after-encryption k e b = bind (assuranceAt s b) (after-assurance k e)
 
-abbrev with-list : (c : tie.After-known-told4) → let a = c .before .before .before .before .before .before .before .before .before .before .before .before .before .before .before .before .before .before .args in Left (attributesSteps (a .kind) (a .s .now) (a .at))
-with-list c =
-    let e = rw (c .before .before .before .before .list-type .ensures) at (c .before .before .before .list-at .ensures) in
-    record { rest = _; so = with-assurance (c .before .before .before .before .before) .so ∙ then (wasOut _ e (c .before .outcome .given .1)) _ }
+  abbrev after-key : Point → ℕ → Out Attributes
+  after-key k a = bind (encryptionKeyAt s a) (after-encryption k)
+
+  -- the values that were read, and the positions that the reads began at, are those of the definition where no read was refused
+  followed : (at a b c type : ℕ) (key encryption : PointRead) (assurance : AssuranceRead) (list outcome : Next) (k e : Point) (v : Assurance) (permissions : Permissions)
+      → pointOf key ≡ verificationKeyAt s at → ((x : Point) (n : ℕ) → pointOf key ≡ got x n → a ≡ n) → ((x : Point) (n : ℕ) → pointOf key ≡ got x n → k ≡ x)
+      → pointOf encryption ≡ encryptionKeyAt s a → ((x : Point) (n : ℕ) → pointOf encryption ≡ got x n → b ≡ n) → ((x : Point) (n : ℕ) → pointOf encryption ≡ got x n → e ≡ x)
+      → assuranceOf assurance ≡ assuranceAt s b → ((x : Assurance) (n : ℕ) → assuranceOf assurance ≡ got x n → c ≡ n) → ((x : Assurance) (n : ℕ) → assuranceOf assurance ≡ got x n → v ≡ x)
+      → type ≡ listType kind → outOf list permissions ≡ listAt type (eqb kind 1) s c
+      → placeOf outcome ≡ bind (pointOf key) (λ x a. bind (pointOf encryption) (λ y b. bind (assuranceOf assurance) (λ w c. bind (placeOf list) (λ z d. need (strayOf (getD s d 0)) (leb (length s) d) (got z d)))))
+      → outOf outcome (record { key = k; encryption = e; assurance = v; permissions = permissions }) ≡ attributesIn kind s at
+  unfolding attributesIn
+  followed at a b c type key encryption assurance list outcome k e v permissions hk nk vk he ne ve ha na va ht hl p =
+      let all : Attributes = record { key = k; encryption = e; assurance = v; permissions = permissions } in
+      valued outcome all ∙ ap (λ (o : Out ℕ). bind o (λ z n. got all n)) p
+      ∙ read-on (pointOf key) _ after-key all (λ x i f.
+      read-on (pointOf encryption) _ (after-encryption x) all (λ y j g.
+      read-on (assuranceOf assurance) _ (after-assurance x y) all (λ w l h.
+      rw (vk x i f, ve y j g, va w l h) (read-last list permissions (λ q. record { key = x; encryption = y; assurance = w; permissions = q }) (λ d. strayOf (getD s d 0)) (λ d. leb (length s) d))
+      ∙ ap (λ (o : Out Permissions). bind o (after-list x y w)) (hl ∙ ap (λ (n : ℕ). listAt n (eqb kind 1) s c) ht ∙ ap (λ (n : ℕ). listAt (listType kind) (eqb kind 1) s n) (na w l h)))
+      ∙ ap (λ (o : Out Assurance). bind o (after-assurance x y)) (ha ∙ ap (λ (n : ℕ). assuranceAt s n) (ne y j g)))
+      ∙ ap (λ (o : Out Point). bind o (after-encryption x)) (he ∙ ap (λ (n : ℕ). encryptionKeyAt s n) (nk x i f)))
+      ∙ ap (λ (o : Out Point). bind o after-key) hk
 
 verification-key-at-requires : tie.Need-verification-key-at-requires
 verification-key-at-requires c κs = search needs
 
-enum-known-first : tie.Need-enum-known-first
-enum-known-first c = search needs
-
-enum-told : tie.Need-enum-told
-enum-told c = search needs
-
-refusal-requires : tie.Need-refusal-requires
-refusal-requires c κs = search needs
-
-attributes-refused-requires : tie.Need-attributes-refused-requires
-attributes-refused-requires c κs = search needs
-
-returns : tie.Need-returns
-unfolding attributesIn
-returns c = c .attributes-refused .ensures ∙ refused-by pointOf (c .before .refusal .ensures) (c .before .before .enum-told .given .1)
-    ∙ sym (stop (was pointOf (c .before .before .before .before .verification-key-at .ensures) (c .before .before .enum-told .given .1)) _)
+next-requires : tie.Need-next-requires
+next-requires c κs = search needs
 
 encryption-key-at-requires : tie.Need-encryption-key-at-requires
 encryption-key-at-requires c κs = search needs
 
-enum-known-second : tie.Need-enum-known-second
-enum-known-second c = search needs
-
-enum-told-2 : tie.Need-enum-told-2
-enum-told-2 c = search needs
-
-refusal-requires-2 : tie.Need-refusal-requires-2
-refusal-requires-2 c κs = search needs
-
-attributes-refused-requires-2 : tie.Need-attributes-refused-requires-2
-attributes-refused-requires-2 c κs = search needs
-
-returns-2 : tie.Need-returns-2
-unfolding attributesIn
-returns-2 c = c .attributes-refused2 .ensures ∙ refused-by pointOf (c .before .refusal2 .ensures) (c .before .before .enum-told2 .given .1)
-    ∙ sym (with-key (c .before .before .before .before .before) .so ∙ stop (was pointOf (c .before .before .before .before .encryption-key-at .ensures) (c .before .before .enum-told2 .given .1)) _)
+next-requires-2 : tie.Need-next-requires-2
+next-requires-2 c κs = search needs
 
 assurance-at-requires : tie.Need-assurance-at-requires
 assurance-at-requires c κs = search needs
 
-enum-known-third : tie.Need-enum-known-third
-enum-known-third c = search needs
-
-enum-told-3 : tie.Need-enum-told-3
-enum-told-3 c = search needs
-
-refusal-requires-3 : tie.Need-refusal-requires-3
-refusal-requires-3 c κs = search needs
-
-attributes-refused-requires-3 : tie.Need-attributes-refused-requires-3
-attributes-refused-requires-3 c κs = search needs
-
-returns-3 : tie.Need-returns-3
-unfolding attributesIn
-returns-3 c = c .attributes-refused3 .ensures ∙ refused-by assuranceOf (c .before .refusal3 .ensures) (c .before .before .enum-told3 .given .1)
-    ∙ sym (with-encryption (c .before .before .before .before .before) .so ∙ stop (was assuranceOf (c .before .before .before .before .assurance-at .ensures) (c .before .before .enum-told3 .given .1)) _)
+next-requires-3 : tie.Need-next-requires-3
+next-requires-3 c κs = search needs
 
 list-type-requires : tie.Need-list-type-requires
 list-type-requires c κs = search needs
@@ -95,73 +83,41 @@ list-type-requires c κs = search needs
 list-at-requires : tie.Need-list-at-requires
 list-at-requires c κs = search needs
 
-enum-known-outcome : tie.Need-enum-known-outcome
-enum-known-outcome c = search needs
+point-requires : tie.Need-point-requires
+point-requires c κs = search needs
 
-enum-told-4 : tie.Need-enum-told-4
-enum-told-4 c = search needs
+point-requires-2 : tie.Need-point-requires-2
+point-requires-2 c κs = search needs
 
-refusal-requires-4 : tie.Need-refusal-requires-4
-refusal-requires-4 c κs = search needs
+assurance-requires : tie.Need-assurance-requires
+assurance-requires c κs = search needs
 
-attributes-refused-requires-4 : tie.Need-attributes-refused-requires-4
-attributes-refused-requires-4 c κs = search needs
+outcome-of-requires : tie.Need-outcome-of-requires
+outcome-of-requires c κs = search needs
 
-returns-4 : tie.Need-returns-4
-unfolding attributesIn
-returns-4 c = let e = rw (c .before .before .before .before .before .list-type .ensures) at (c .before .before .before .before .list-at .ensures) in
-    c .attributes-refused4 .ensures ∙ refused-by placeOf (c .before .refusal4 .ensures) (c .before .before .enum-told4 .given .1)
-    ∙ sym (with-assurance (c .before .before .before .before .before .before) .so ∙ stop (wasOut _ e (c .before .before .enum-told4 .given .1)) _)
-
-shared-slice-read-stray : tie.Need-shared-slice-read-stray
-shared-slice-read-stray c = search needs
-
-stray-requires : tie.Need-stray-requires
-stray-requires c κs = search needs
-
-attributes-refused-requires-5 : tie.Need-attributes-refused-requires-5
-attributes-refused-requires-5 c κs = search needs
-
-returns-5 : tie.Need-returns-5
-unfolding attributesIn
-returns-5 c = c .attributes-refused5 .ensures ∙ ap (λ (n : ℕ). refused n) (c .before .stray .ensures)
-    ∙ sym (with-list (c .before .before .before .before) .so ∙ fail (lt-leb _ _ (c .before .before .before .if1 .taken)) _ _)
-
-returns-6 : tie.Need-returns-6
-unfolding attributesIn
-returns-6 c = sym (with-list (c .before .before) .so ∙ pass (le-leb _ _ (c .before .if1 .left)) _ _)
+returns : tie.Need-returns
+returns c =
+    let list = c .before .before .before .before .before .list-at .result in
+    followed _ _ _ _ _ _ _ (c .before .before .before .before .before .before .before .before .before .before .before .before .verification-key-at .result) (c .before .before .before .before .before .before .before .before .before .before .encryption-key-at .result) (c .before .before .before .before .before .before .before .before .assurance-at .result) (list .outcome) (c .outcome-of .result)
+    (c .before .before .before .point .result) (c .before .before .point2 .result) (c .before .assurance .result) (list .permissions) (c .before .before .before .before .before .before .before .before .before .before .before .before .verification-key-at .ensures) (c .before .before .before .before .before .before .before .before .before .before .before .next .ensures) (c .before .before .before .point .ensures)
+    (c .before .before .before .before .before .before .before .before .before .before .encryption-key-at .ensures) (c .before .before .before .before .before .before .before .before .before .next2 .ensures) (c .before .before .point2 .ensures)
+    (c .before .before .before .before .before .before .before .before .assurance-at .ensures) (c .before .before .before .before .before .before .before .next3 .ensures) (c .before .assurance .ensures)
+    (c .before .before .before .before .before .before .list-type .ensures) (c .before .before .before .before .before .list-at .ensures) (c .outcome-of .ensures)
 
 pub attributes-in-spec : {M : Type 1} → statement M
 attributes-in-spec =
     tie.close
     (tie.spec
     verification-key-at-requires
-    enum-known-first
-    enum-told
-    refusal-requires
-    attributes-refused-requires
-    returns
+    next-requires
     encryption-key-at-requires
-    enum-known-second
-    enum-told-2
-    refusal-requires-2
-    attributes-refused-requires-2
-    returns-2
+    next-requires-2
     assurance-at-requires
-    enum-known-third
-    enum-told-3
-    refusal-requires-3
-    attributes-refused-requires-3
-    returns-3
+    next-requires-3
     list-type-requires
     list-at-requires
-    enum-known-outcome
-    enum-told-4
-    refusal-requires-4
-    attributes-refused-requires-4
-    returns-4
-    shared-slice-read-stray
-    stray-requires
-    attributes-refused-requires-5
-    returns-5
-    returns-6)
+    point-requires
+    point-requires-2
+    assurance-requires
+    outcome-of-requires
+    returns)
