@@ -28,7 +28,7 @@ abbrev pub absent : Option ℕ → Bool
 absent none = true
 absent (some i) = false
 
--- an issuer that is stored: it is not withdrawn, and it allows what the certificate allows; no second and no position (open point 27)
+-- an issuer that is stored: it is not withdrawn, and it allows what the certificate allows; no second and no position (docs/DECISIONS.md 31)
 abbrev pub belowIssuer : List ℕ → Scope → ℕ → Steps Well
 belowIssuer store subject i =
     need WITHDRAWN (not (withdrawnAt store i)) (needs (issuedRows subject (scopeOf (slotOf store i))) (done well))

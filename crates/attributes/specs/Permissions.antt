@@ -1,4 +1,4 @@
--- Attributes 32 and 33, the permissions (001, clauses 6.4 and 6.9).
+-- Attributes 32 and 33, the permissions (001, clauses 6.4, 6.5 and 6.9).
 use Prim.Native.Nat.{ℕ, _-_}
 use mathlib.Core.Bool.{Bool, true, false}
 use mathlib.Core.List.{List, []}

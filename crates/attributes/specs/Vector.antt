@@ -1,4 +1,4 @@
--- The attribute vector: ascending, each attribute once.
+-- The attribute vector (001, clauses 6.1 and 6.5): ascending, each attribute once.
 use Prim.Native.Nat.{ℕ}
 use mathlib.Core.Bool.{Bool, not, _&&_, _||_}
 use mathlib.Core.List.{List}

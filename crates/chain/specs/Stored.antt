@@ -1,4 +1,5 @@
--- The walk in a store: issuers are found by id, and what counts as withdrawn is said here alone.
+-- The walk in a store: issuers are found by id; what counts as withdrawn in a walk is said here (`withdrawnIn`). Admission and the
+-- comparison of a stored copy ask a slot's state themselves.
 use mathlib.Core.Bool.{Bool, false, _&&_, _||_}
 use mathlib.Core.List.{List}
 use mathlib.Core.Option.{Option, none, some}
@@ -46,7 +47,7 @@ abbrev pub atFound : (ℕ → Bool) → Option ℕ → Bool
 atFound p none = false
 atFound p (some i) = p i
 
--- the certificate with this id counts as withdrawn: THE place that says so
+-- the certificate with this id counts as withdrawn in a walk
 unfoldable pub withdrawnIn : List ℕ → ℕ → Bool
 withdrawnIn l id = atFound (withdrawnAt l) (find l id)
 
@@ -69,7 +70,7 @@ standsBy gone l t i = filledAt l i && eqb (walkNumber gone l t Anywhere follower
 unfoldable pub stands : List ℕ → ℕ → ℕ → Bool
 stands l t i = standsBy (withdrawnIn l) l t i
 
--- shut names for what the code answers on the way
+-- what the code answers on the way, by names that do not unfold of themselves
 unfoldable pub placeNumber : Place → Scope → ℕ
 placeNumber p s = firstOf (placeRows p s)
 

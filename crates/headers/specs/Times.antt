@@ -1,4 +1,4 @@
--- Headers 0, 1 and 2: generation time, generation time with deviation, expiration (001, clauses 4.2.15 to 4.2.17 and 5.4).
+-- Headers 0, 1 and 2: generation time, generation time with deviation, expiration (001, clauses 4.2.14 to 4.2.16 and 5.4).
 use Prim.Native.Nat.{ℕ}
 use mathlib.Core.Bool.{true, false}
 use mathlib.Core.List.{List}

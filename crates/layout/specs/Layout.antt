@@ -54,7 +54,7 @@ permissionsType ticket = 33
 permissionsType authority = 32
 permissionsType root = 32
 
--- attributes 0, 1, 2, and 32 or 33, ascending (clause 6.4)
+-- attributes 0, 1, 2, and 32 or 33 (clause 6.5), ascending (clause 6.1)
 abbrev pub attributeOctets : Contents → List ℕ
 attributeOctets c =
     0 ∷ (verificationOctets (c .key)

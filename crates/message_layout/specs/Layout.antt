@@ -15,15 +15,15 @@ abbrev pub signerOctets : Signer → List ℕ
 signerOctets (named id) = 1 ∷ id
 signerOctets (carried x) = 2 ∷ certificate.written x
 
--- Time64 (clause 4.2.16)
+-- Time64 (clause 4.2.15)
 abbrev pub generationOctets : ℕ → List ℕ
 generationOctets time = bigEndianOctets 8 time
 
--- Time64WithStandardDeviation (clause 4.2.17)
+-- Time64WithStandardDeviation (clause 4.2.16)
 abbrev pub deviationOctets : Deviation → List ℕ
 deviationOctets d = bigEndianOctets 8 (d .time) ++ (d .confidence ∷ [])
 
--- Time32 (clause 4.2.15)
+-- Time32 (clause 4.2.14)
 abbrev pub expirationOctets : ℕ → List ℕ
 expirationOctets second = bigEndianOctets 4 second
 

@@ -1,5 +1,6 @@
 -- How a layout is read. A reader looks at a position of its container, a list of octets whose end is the container's end.
--- The order of the steps is the order of the octets, and at one octet 4 comes before 6 before 5.
+-- The order of the steps is the order of the octets, and at one octet 4 comes before 6 before 5; an IntX asks for more octets only after its
+-- first one was judged (01).
 use Prim.Native.Nat.{ℕ}
 use mathlib.Core.Bool.{Bool, true, false}
 

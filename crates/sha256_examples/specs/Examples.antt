@@ -1,4 +1,4 @@
--- The examples of FIPS 180-4 for SHA-256: what is hashed, and its digest, as octets.
+-- The empty message and two of NIST's examples for SHA-256 (FIPS 180-4): what is hashed, and its digest, as octets.
 use mathlib.Core.Path.{_≡_}
 use mathlib.Core.List.{List, [], _∷_}
 use Prim.Native.Nat.{ℕ}

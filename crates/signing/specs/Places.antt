@@ -1,4 +1,4 @@
--- Where a message is checked: the location that it has, else the caller's own position.
+-- Where a message is checked (01, "The signed message"): the location that it has, else the caller's own position.
 use mathlib.Core.Bool.{Bool, _&&_}
 use lib.IntN.{ℤ, pos, negℤ}
 use Rattle.octets.specs.Reading.{pick}

@@ -1,4 +1,4 @@
--- The lowest slot that passes a test.
+-- The lowest slot that passes a test (01, "The store").
 use Prim.Native.Nat.{ℕ, zero, suc}
 use mathlib.Core.Bool.{Bool, not, _&&_}
 use mathlib.Core.List.{List}
@@ -17,7 +17,7 @@ lowestFrom p i (suc n) = pick (p i) (some i) (lowestFrom p (suc i) n)
 abbrev pub lowest : (ℕ → Bool) → Option ℕ
 lowest p = lowestFrom p 0 64
 
--- the slot holds a certificate with this id; a filled slot may have id 0, and an empty one is never found (open point 21)
+-- the slot holds a certificate with this id; a filled slot may have id 0, and an empty one is never found (docs/DECISIONS.md 25)
 abbrev pub hasId : List ℕ → ℕ → ℕ → Bool
 hasId l id i = filledAt l i && eqb (idAt l i) id
 

@@ -78,10 +78,11 @@ unfoldable pub listedFor : List ℕ → ℕ → List ℕ → Answer ℕ → List
 listedFor store t l (gives c) = written (affected store (after store c) t) l store
 listedFor store t l (refused k) = refusedList k l store
 
+-- what list answers: document 01 calls it the page's list
 unfoldable pub page : List ℕ → List ℕ → ℕ → List ℕ → Listing
 page store id t l = listedFor store t l (run (drawing store id l))
 
--- shut names for what the code answers on the way
+-- what the code answers on the way, by names that do not unfold of themselves
 abbrev pub askedOf : Asked → Answer ℕ
 askedOf (Held c) = gives c
 askedOf (Refused k) = refused k

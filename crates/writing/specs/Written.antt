@@ -1,4 +1,4 @@
--- How numbers and vectors are written. What is written of a value is the only way to write it.
+-- How numbers and vectors are written (001, clauses 4.1 and 4.2.1). What is written of a value is the only way to write it.
 use Prim.Native.Nat.{ℕ, zero, suc, _+_, _/_, _%_, _^_, _<_}
 use mathlib.Core.List.{List, [], _∷_, _++_}
 use lib.ListN.{length}
