@@ -1,6 +1,8 @@
 -- What is proved of install and admit. Assumes nothing.
 use Rattle.admission.specs.Laws.{Laws}
+use Rattle.order.proofs.Steps.{refuses-at}
 use Rattle.entries.proofs.Kept.{kept-of}
+use Rattle.admission.specs.Order.{issuerSteps}
 use Rattle.entries.proofs.Whole.{whole-of}
 use Rattle.admission.proofs.Exactly.{installed-exactly, admitted-exactly, refused-exactly, refused-first, refused-keeps}
 use Rattle.admission.proofs.After.{one-more, stays-valid}
@@ -14,6 +16,7 @@ laws =
       admitted-exactly = admitted-exactly;
       refused-exactly = refused-exactly;
       refused-first = refused-first;
+      issuer-first = λ anchor store r k z. refuses-at (issuerSteps anchor store r) k z;
       refused-keeps = refused-keeps;
       one-more = one-more;
       stays-valid = stays-valid;

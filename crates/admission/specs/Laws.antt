@@ -4,18 +4,19 @@ use mathlib.Core.Path.{_≡_}
 use mathlib.Core.Bool.{Bool}
 use mathlib.Core.Logic.{_↔_, _≢_}
 use mathlib.Core.List.{List}
-use Rattle.order.specs.Steps.{rows, First, Refuses}
+use Rattle.order.specs.Steps.{number as answerNumber, run, rows, First, Refuses}
 use Rattle.certificate.specs.Operations.{readingOf}
 use Rattle.certificate.specs.declared.certificates.Certificate.{Certificate}
 use Rattle.bitfields.specs.Field.{number, Octets}
 use Rattle.records.specs.Records.{recordOf}
+use Rattle.records.specs.declared.Record.{Record}
 use Rattle.store.specs.Slots.{slotOf, HELD, stateAt, idAt}
 use Rattle.validity.specs.Laws.{Valid}
 use Rattle.entries.specs.Readable.{accepted}
 use Rattle.entries.specs.Stored.{recordFrom}
 use Rattle.entries.specs.Kept.{Kept}
 use Rattle.entries.specs.Whole.{Whole}
-use Rattle.admission.specs.Order.{entering, entered, installed, admitted}
+use Rattle.admission.specs.Order.{issuerSteps, entering, entered, installed, admitted}
 use Rattle.admission.specs.Admitted.{LowestEmpty, Entered, Installed, Admitted}
 use Rattle.admission.specs.Filled.{filledBelow}
 
@@ -45,6 +46,9 @@ pub record Laws : Type 0 where
       → (entered anchor store octets verdict .0 ≡ k) ↔ Refuses (entering anchor store octets verdict) k
   pub refused-first : (anchor : Bool) (store octets : List ℕ) (verdict k : ℕ) → ¬ (k ≡ 0)
       → (entered anchor store octets verdict .0 ≡ k) ↔ First (rows (entering anchor store octets verdict)) k
+  -- inside the row of the issuer: 7, 8, 10 to 13
+  pub issuer-first : (anchor : Bool) (store : List ℕ) (r : Record) (k : ℕ) → ¬ (k ≡ 0)
+      → (answerNumber (run (issuerSteps anchor store r)) ≡ k) ↔ First (rows (issuerSteps anchor store r)) k
   pub refused-keeps : (anchor : Bool) (store octets : List ℕ) (verdict : ℕ) → ¬ (entered anchor store octets verdict .0 ≡ 0) → entered anchor store octets verdict .1 ≡ store
   -- one certificate more, and a valid store stays valid
   pub one-more : (store octets : List ℕ) (verdict : ℕ) (c : Certificate) (after : List ℕ) → Octets octets → Entered store octets verdict c after → OneMore store octets c after

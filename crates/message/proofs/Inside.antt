@@ -189,7 +189,3 @@ known s m next h =
 
 pub inside : (s : List ℕ) (m : Message) (next : ℕ) → wholeMessage s ≡ got m next → Inside s m
 inside s m next h = known s m next h .0
-
--- the message is the whole input
-pub message-end : (s : List ℕ) (m : Message) (next : ℕ) → wholeMessage s ≡ got m next → next ≡ length s
-message-end s m next h = known s m next h .1

@@ -1,6 +1,5 @@
 -- What the code passes on of a message: where its parts stand. The values of a certificate that it carries are read again where they are
 -- needed, so that no copy of them waits on the stack.
-use Prim.Native.Nat.{ℕ}
 use mathlib.Core.Bool.{Bool, not, _&&_}
 use lib.Dec.{eqb}
 use Rattle.octets.specs.Reading.{Out, got, refused}

@@ -25,9 +25,6 @@ module _ (l : List ℕ) (c : ℕ) where
   pub long-kept : length (withState l c GONE) ≡ length l
   long-kept = length-withField l (c * 1696 + 128) 2 GONE
 
-  pub octets-kept : Octets (withState l c GONE)
-  octets-kept = octets-withField l (c * 1696 + 128) 2 GONE
-
 module _ (l : List ℕ) (c : ℕ) (are : Octets l) (size : length l ≡ 13568) (h : c < 64) where
   -- no other bit changes
   pub bit-kept : (k : ℕ) → k < 8 * 13568 → k ≢ c * 1696 + 128 → k ≢ c * 1696 + 129 → field (withState l c GONE) k 1 ≡ field l k 1

@@ -28,7 +28,8 @@ use Rattle.chain.specs.Stored.{subjectOr, issuerIn}
 use Rattle.chain.specs.declared.subjects.Subject.{Subject}
 use Rattle.chain.proofs.Answers.{read-named, read-given}
 use Rattle.chain.proofs.Laws.{laws as chain-laws}
-use Rattle.signing.specs.Signers.{carries, subjectOf, signed}
+use Rattle.signing.specs.Copies.{copying}
+use Rattle.signing.specs.Signers.{carries, signing, subjectOf, entitling, signed}
 use Rattle.verification.specs.Order.{ownPosition, Passed, passed, judging, decisionFor, verified, deciding, undecided, decisionOf, decision, certificateQuestion, issuerQuestion, unasked, questionsFor, preparing, unprepared, preparedOf, preparation}
 use Rattle.entries.specs.Stored.{partOf}
 use Rattle.verification.specs.Payloads.{payloadOf}
@@ -254,6 +255,10 @@ demand2 = record {
   );
   accepted-gives = accepted-gives;
   refused-first = refused-first;
+  signer-first = λ store octets m own k z. refuses-at (signed store octets m own) k z;
+  signing-first = λ store octets m k z. refuses-at (signing store octets m) k z;
+  copy-first = λ store r k z. refuses-at (copying store r) k z;
+  entitled-first = λ store f own r k z. refuses-at (entitling store f own r) k z;
   refused-zeros = refused-zeros;
   prepares = prepares;
   unprepared-zeros = unprepared-zeros;

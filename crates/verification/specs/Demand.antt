@@ -4,7 +4,7 @@ use mathlib.Core.Logic.{_↔_, _≢_}
 use mathlib.Core.List.{List, []}
 use Prim.Native.Nat.{ℕ, _+_, _≤_}
 use lib.ListN.{length}
-use Rattle.order.specs.Steps.{rows, First}
+use Rattle.order.specs.Steps.{number as answerNumber, run, rows, First}
 use Rattle.bitfields.specs.Field.{number, Octets}
 use Rattle.message.specs.Messages.{Message}
 use Rattle.records.specs.Records.{recordOf}
@@ -13,7 +13,10 @@ use Rattle.store.specs.Slots.{slotOf}
 use Rattle.store.specs.Laws.{Holds}
 use Rattle.chain.specs.Chains.{Root, top}
 use Rattle.chain.specs.Laws.{StoredIn}
-use Rattle.signing.specs.Signers.{publicKey}
+use Rattle.chain.specs.declared.subjects.Position.{Position}
+use Rattle.headers.specs.declared.fields.Fields.{Fields}
+use Rattle.signing.specs.Copies.{copying}
+use Rattle.signing.specs.Signers.{signing, entitling, signed, publicKey}
 use Rattle.verification.specs.Order.{passed, question, unasked, decisionFor, deciding, decision, undecided, preparation, unprepared}
 use Rattle.entries.specs.Stored.{partOf}
 use Rattle.verification.specs.Payloads.{payloadOf}
@@ -38,10 +41,18 @@ pub record Demand2 : Type 1 where
   -- and then gives payload, signer's id, permission and generation time
   pub accepted-gives : (store octets : List ℕ) (x : Situation) (verdict certified : ℕ) → Octets store → Octets octets
       → (h : Accepted store octets x verdict certified) → decision store octets x verdict certified ≡ decisionFor (passed (h .message) (h .signer))
-  -- it answers k exactly if each test before passes and the first that fails has the number k,
+  -- it answers k exactly if each row before passes and the first that fails answers k,
   pub refused-first : (store octets : List ℕ) (x : Situation) (verdict certified k : ℕ) → k ≢ 0
       → (decision store octets x verdict certified .number ≡ k) ↔ First (rows (deciding store octets x verdict certified)) k
-  -- and gives zeros and the empty part at octet 0 then
+  -- inside the row of the signer: who it is, then what it may; the stored copy of a carried certificate
+  pub signer-first : (store octets : List ℕ) (m : Message) (own : Position) (k : ℕ) → k ≢ 0
+      → (answerNumber (run (signed store octets m own)) ≡ k) ↔ First (rows (signed store octets m own)) k
+  pub signing-first : (store octets : List ℕ) (m : Message) (k : ℕ) → k ≢ 0
+      → (answerNumber (run (signing store octets m)) ≡ k) ↔ First (rows (signing store octets m)) k
+  pub copy-first : (store : List ℕ) (r : Record) (k : ℕ) → k ≢ 0 → (answerNumber (run (copying store r)) ≡ k) ↔ First (rows (copying store r)) k
+  pub entitled-first : (store : List ℕ) (f : Fields) (own : Position) (r : Record) (k : ℕ) → k ≢ 0
+      → (answerNumber (run (entitling store f own r)) ≡ k) ↔ First (rows (entitling store f own r)) k
+  -- a refusal gives zeros and the empty part at octet 0
   pub refused-zeros : (store octets : List ℕ) (x : Situation) (verdict certified : ℕ) → decision store octets x verdict certified .number ≢ 0
       → decision store octets x verdict certified ≡ undecided (decision store octets x verdict certified .number)
   -- prepare refuses exactly as decide with good verdicts

@@ -71,3 +71,7 @@ Demand = (s : List ℕ) (c t : ℕ) (id l : List ℕ) → Asked s c id l → Dem
 -- what a caller has that draws the page and then withdraws: for each slot that holds a certificate with that id
 abbrev pub Kept3 : List ℕ → List ℕ → ℕ → List ℕ → Listing → ℕ × List ℕ → Type 0
 Kept3 s id t l p w = (c : ℕ) → Asked s c id l → Demand3 s c t l p w
+
+-- both calls on the same store and id: what each answers, refusals too, and demand 3
+abbrev pub BothCalls : List ℕ → List ℕ → ℕ → List ℕ → Listing → ℕ × List ℕ → Type 0
+BothCalls s id t l p w = (p ≡ page s id t l) × (w ≡ withdrawal s id) × Kept3 s id t l p w

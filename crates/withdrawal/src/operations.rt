@@ -7,7 +7,7 @@ ghost use Rattle.order.specs.Steps.{gives};
 ghost use Rattle.store.specs.Slots.{filledAt};
 ghost use Rattle.validity.specs.Valid.{validStore};
 ghost use Rattle.withdrawal.specs.Order.{after, listing, listedFor, page, withdrawal};
-ghost use Rattle.withdrawal.specs.Demand.{Kept3};
+ghost use Rattle.withdrawal.specs.Demand.{BothCalls};
 use crate::asking::Asked;
 use crate::asking::ask;
 use crate::falling::slot_set;
@@ -81,7 +81,7 @@ pub fn withdraw(store: &mut [u8], id: &[u8]) -> u8
 
 // Demand 3 as code: the page is drawn, then the withdrawal is made, on the same store and id.
 pub fn list_then_withdraw(store: &mut [u8], id: &[u8], second: u32, lent: &mut [u8]) -> Both
-    ensures { λ r. ⌜ Kept3 (now (store .entry)) (now (id .entry)) second (now (lent .entry)) (listing (r .page) (now (lent .exit)) (now (store .entry))) (r .withdrew, now (store .exit)) ⌝ }
+    ensures { λ r. ⌜ BothCalls (now (store .entry)) (now (id .entry)) second (now (lent .entry)) (listing (r .page) (now (lent .exit)) (now (store .entry))) (r .withdrew, now (store .exit)) ⌝ }
 {
     let page = list(store, id, second, lent);
     let withdrew = withdraw(store, id);

@@ -17,7 +17,10 @@ same-length-2 : tie.Need-same-length-2
 same-length-2 c = search needs
 
 returns : tie.Need-returns
-returns c = kept3 _ _ _ _ _ _ (c .before .before .before .before .before .before .list .ensures) (c .before .before .withdraw .ensures)
+returns c =
+    let drawn = c .before .before .before .before .before .before .list .ensures in
+    let done = c .before .before .withdraw .ensures in
+    (drawn, done, kept3 _ _ _ _ _ _ drawn done)
 
 pub list-then-withdraw-spec : {M : Type 1} → statement M
 list-then-withdraw-spec =
