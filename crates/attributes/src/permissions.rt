@@ -107,7 +107,7 @@ pub fn no_permissions() -> Permissions
     }
 }
 
-// The permissions from a position to the end: at most sixteen.
+// The permissions from a position to the end: at most sixteen. There is one way out, so that the array is copied once.
 fn permissions_in(s: &[u8], start: usize, ssp: bool, given: bool) -> PermissionsRead
     ensures { λ r. ⌜ permissionsOf r ≡ bind (itemsFrom (permissionAt ssp) intxAt mostPermissions [] (now (s .entry)) start) (λ ps next. got (record { given = given; count = length ps; values = padded 16 unused ps }) next) ⌝ }
 {

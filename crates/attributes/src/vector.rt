@@ -107,8 +107,8 @@ fn outcome_of(
     Next::At(d)
 }
 
-// The attributes of a certificate of a kind, from a position to the end: ascending, each once. After a refusal the rest is
-// read at the end, where nothing stands.
+// The attributes of a certificate of a kind, from a position to the end: ascending, each once. There is one way, so that the
+// permissions are copied once: after a refusal the rest is read at the end, where nothing stands.
 pub fn attributes_in(s: &[u8], at: usize, kind: u8) -> AttributesRead
     ensures { λ r. ⌜ attributesOf r ≡ attributesIn kind (now (s .entry)) at ⌝ }
 {

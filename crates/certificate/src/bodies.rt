@@ -29,7 +29,8 @@ fn outcome_of(span: Span, inner: Next) -> Next
     }
 }
 
-// The attribute vector of a certificate of a kind. Where its length is refused, no octets are read.
+// The attribute vector of a certificate of a kind. There is one way, as in `attributes_in`: where the length is refused, an
+// empty vector is read.
 pub fn attributes_at(s: &[u8], at: usize, kind: u8) -> AttributesRead
     ensures { λ r. ⌜ attributesOf r ≡ attributesAt kind (now (s .entry)) at ⌝ }
 {

@@ -86,7 +86,6 @@ pub fn certificate_at(s: &[u8], at: usize) -> CertificateRead
     let first = head_at(s, at);
     let second = attributes_at(s, first.next(s.len()), first.kind());
     let attributes = second.attributes;
-    let lacks_none = complete(attributes);
     let HeadRead::Value { head, next: _ } = first else {
         return stopped(first.refusal(), attributes);
     };
@@ -94,7 +93,7 @@ pub fn certificate_at(s: &[u8], at: usize) -> CertificateRead
     let Next::At(b) = outcome else {
         return stopped(outcome.refusal(), attributes);
     };
-    let third = restrictions_at(s, b, lacks_none);
+    let third = restrictions_at(s, b, complete(attributes));
     let outcome = third.outcome;
     let Next::At(c) = outcome else {
         return stopped(outcome.refusal(), attributes);
