@@ -104,7 +104,7 @@ def values(text, types, names):
 
 def projections(text, types, names):
     for match in re.finditer(r"(?<= )\.([^\s(){};,.]+)", text):
-        for other in sorted(types.siblings.get(match.group(1), ())):
+        for other in sorted(types.siblings.get(match.group(1), set()) & names):
             yield "field", match.start(1), match.end(1), other, ()
 
 
@@ -144,8 +144,8 @@ def exchanged_rows(lines, at):
 
 
 def names_in(lines):
-    """The names that a file brings in or defines itself."""
-    names = set()
+    """The names that a file brings in or defines itself, and the fields that it names: others of a type are seldom of the same record."""
+    names = set(re.findall(r"(?<= )\.(%s)" % NAME, "\n".join(lines)))
     for line in lines:
         match = re.match(r"use [^{]*\{(.*)\}$", line)
         if match:
@@ -181,8 +181,9 @@ def edits_in(text, types):
     names = names_in(lines)
     for at, column in editable(lines):
         part = lines[at][column:]
+        own = re.match(NAME, lines[at])  # a definition that names itself anew would only not end
         for rule in RULES:
-            for name, start, end, new, imports in rule(part, types, names):
+            for name, start, end, new, imports in rule(part, types, names - {own.group()} if own else names):
                 yield at + 1, name, lines[at], lines[at][:column] + part[:start] + new + part[end:], imports
         for name, old, new in exchanged_rows(lines, at):
             yield at + 1, name, old, new, ()

@@ -133,7 +133,9 @@ def outcome(status, words):
     if status == 0 and re.search(r"^logic=proved", words, re.M):
         return PROVED
     if status == 1 and re.search(r"^logic=not-proved", words, re.M):
-        return ILL_FORMED if re.search(r"/(specs/[^:\s]*\.antt|src/[^:\s]*\.rt):\d+:\d+: error", words) else REFUSED
+        # a definition or a function of another shape: a cycle of calls has its proof elsewhere
+        other = re.search(r"/(specs/[^:\s]*\.antt|src/[^:\s]*\.rt):\d+:\d+: error|: error: .* is in a cycle of calls", words)
+        return ILL_FORMED if other else REFUSED
     return ILL_FORMED if status == 1 else UNDECIDED
 
 
@@ -144,3 +146,24 @@ def first_error(words):
         if match:
             return match.group()
     return words.strip().splitlines()[-1] if words.strip() else ""
+
+
+def unproved(words):
+    """The functions whose contracts the check does not prove."""
+    return re.findall(r"^fn (\S+): (?:not proved|no proof)", words, re.M)
+
+
+def own_error(words, crate, function):
+    """What says that this function's own proof fails, and not only that one which it calls is not proved; nothing if the words leave that open."""
+    *modules, name = function.split("::")
+    folder = r"/proofs/%s\+?%s/" % ("".join(module + "/" for module in modules), name)  # with + for one that calls itself
+    for line in words.splitlines():
+        if re.search(folder + ".*: error", line) and "was not admitted" not in line and "in a cycle of calls" not in line:
+            return line
+    match = re.search(r"^fn %s::%s: (no proof: .*`search` does not close.*|not proved)$" % (crate, re.escape(function)), words, re.M)
+    return match.group() if match else ""
+
+
+def rejected_at(words, file):
+    """The lines of a source file that the front end rejects."""
+    return {int(line) for line in re.findall(r"/%s:(\d+):\d+: error" % re.escape(file), words)}

@@ -18,10 +18,12 @@ def edits_of(root, crate, types):
     for file in files_of(root, crate):
         if file in SKIPPED:
             continue
-        rules = antt_rules if file.endswith(".antt") else rattle_rules
-        for line, rule, old, new, imports in rules.edits_in(text_of(root, "crates", crate, file), types):
+        code = file.endswith(".rt")
+        text = text_of(root, "crates", crate, file)
+        for line, rule, old, new, imports in (rattle_rules if code else antt_rules).edits_in(text, types):
             if old != new:
-                edit = Edit(crate, file, line, rule, old, new, tuple(imports))
+                function = rattle_rules.function_at(file, text.splitlines(), line - 1) if code else ""
+                edit = Edit(crate, file, line, rule, old, new, tuple(imports), function)
                 found.setdefault(edit.key, edit)
     return list(found.values())
 
@@ -61,12 +63,30 @@ def in_turn(groups, chance):
     return first + later
 
 
-def choose(root, crates, types, seed, count):
+def choose(root, crates, types, seed, count, only=("specs", "src")):
     """`count` edits: one of each crate after the other, so that a part of the list is as even as the whole."""
-    queues = [order_of(edits_of(root, crate, types), f"{seed}/{crate}") for crate in crates]
+    queues = []
+    for crate in crates:
+        edits = [edit for edit in edits_of(root, crate, types) if edit.file.split("/")[0] in only]
+        queues.append(order_of(edits, f"{seed}/{crate}"))
     chosen = []
     while any(queues) and len(chosen) < count:
         for queue in queues:
             if queue and len(chosen) < count:
                 chosen.append(queue.pop(0))
     return chosen
+
+
+def together(numbered, most):
+    """The edits in the parts that are tried at once: one edit, or edits of the code of up to so many functions of a crate."""
+    parts, open_parts = [], {}
+    for number, edit in numbered:
+        part = open_parts.get(edit.crate)
+        if not edit.function:
+            parts.append([(number, edit)])
+        elif part and len(part) < most and edit.function not in {other.function for _, other in part}:
+            part.append((number, edit))
+        else:
+            open_parts[edit.crate] = [(number, edit)]
+            parts.append(open_parts[edit.crate])
+    return parts

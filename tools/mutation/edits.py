@@ -14,6 +14,7 @@ class Edit:
     old: str  # the whole lines
     new: str
     imports: tuple = ()  # (module, name): what the new text of a definition needs beside what the file has
+    function: str = ""  # the function whose code is edited, by its path
 
     @property
     def key(self):

@@ -4,7 +4,7 @@ import shutil
 import time
 
 from . import checking
-from .checking import PROVED, REFUSED, UNDECIDED
+from .checking import ILL_FORMED, PROVED, REFUSED, UNDECIDED
 from .sources import above, text_of
 
 SURVIVOR = "survivor"
@@ -20,22 +20,50 @@ class Judge:
 
     def judge(self, edit):
         """The record of an edit for the report."""
-        self.prepare(edit)
+        self.prepare([edit])
         self.copy.incremental(edit.crate)  # made beforehand: it is no part of the edit's time
         began = time.monotonic()
-        result, by, error = self.decide(edit, began)
+        result, by, words = self.decide(edit, began)
+        error = checking.first_error(words) if result != SURVIVOR else ""
+        return self.record(edit, result, by, error, checking.unproved(words), time.monotonic() - began)
+
+    def judge_together(self, edits):
+        """The records of edits of different functions of a crate, from one check; and the edits that it leaves open.
+
+        A function's proof reads its own code and the contracts of those that it calls, and no contract is edited: an error in it is its edit's own."""
+        self.prepare(edits)
+        crate = edits[0].crate
+        self.copy.incremental(crate)
+        began = time.monotonic()
+        result, words = self.check(crate, self.folder(crate), None, began)
+        spent = (time.monotonic() - began) / len(edits)
+        records, left = [], []
+        for edit in edits:
+            lines = range(edit.line, edit.line + edit.old.count("\n") + 1)
+            error = checking.own_error(words, crate, edit.function) if result == REFUSED else ""
+            if error:
+                records.append(self.record(edit, REFUSED, crate, error, [f"{crate}::{edit.function}"], spent))
+            elif result == ILL_FORMED and checking.rejected_at(words, edit.file) & set(lines):
+                records.append(self.record(edit, ILL_FORMED, crate, checking.first_error(words), [], spent))
+            else:
+                left.append(edit)
+        return records, left
+
+    def record(self, edit, result, by, error, unproved, seconds):
         old, new = edit.change()
         return {"id": edit.key, "crate": edit.crate, "file": edit.file, "line": edit.line, "rule": edit.rule, "old": old, "new": new, "result": result, "by": by,
-                "error": self.plain(error)[:600], "seconds": round(time.monotonic() - began, 1), "limit": self.limit}
+                "error": self.plain(error)[:600], "unproved": unproved[:8], "seconds": round(seconds, 1), "limit": self.limit}
 
     def decide(self, edit, began):
-        """What came of it, the crate that refused, and its first error."""
+        """What came of it, the crate that refused, and what was said of it."""
         result, words = self.check(edit.crate, self.folder(edit.crate), None, began)
         if result != PROVED:
-            return result, edit.crate, checking.first_error(words)
+            return result, edit.crate, words
         result, words = self.build(edit.crate, began)
         if result != PROVED:
-            return result, edit.crate, checking.first_error(words)
+            return result, edit.crate, words
+        if edit.function:
+            return SURVIVOR, "", ""  # crates above read a function's contract, which is proved as it was, and never its code
         for crate in above(self.copy.crates, edit.crate):
             spent = time.monotonic()
             self.copy.incremental(crate)
@@ -43,20 +71,22 @@ class Judge:
             result, words = self.check(crate, self.copy.folder(crate), self.overlay, began)
             if result != PROVED:
                 # a crate above is not edited: whatever it says, a fact or a type of its own no longer holds
-                return (UNDECIDED if result == UNDECIDED else REFUSED), crate, checking.first_error(words)
+                return (UNDECIDED if result == UNDECIDED else REFUSED), crate, words
         return SURVIVOR, "", ""
 
     def folder(self, crate):
         return os.path.join(self.room, "crates", crate)
 
-    def prepare(self, edit):
+    def prepare(self, edits):
         shutil.rmtree(self.room, ignore_errors=True)
         os.makedirs(self.overlay)
-        shutil.copytree(self.copy.folder(edit.crate), self.folder(edit.crate))
-        path = os.path.join(self.folder(edit.crate), edit.file)
-        text = edit.apply(text_of(path))
-        with open(path, "w", encoding="utf-8") as file:
-            file.write(text)
+        crate = edits[0].crate
+        shutil.copytree(self.copy.folder(crate), self.folder(crate))
+        for edit in edits:
+            path = os.path.join(self.folder(crate), edit.file)
+            text = edit.apply(text_of(path))
+            with open(path, "w", encoding="utf-8") as file:
+                file.write(text)
 
     def left(self, began):
         return max(1.0, self.limit - (time.monotonic() - began))

@@ -70,7 +70,7 @@ def exchanges(line, types, names):
 
 def fields(line, types, names):
     for match in re.finditer(r"(?<=[\w\])])\.(\w+)\b(?!\()", line):
-        for other in sorted(types.siblings.get(match.group(1), ())):
+        for other in sorted(types.siblings.get(match.group(1), set()) & names):
             yield "field", match.start(1), match.end(1), other
 
 
@@ -105,8 +105,9 @@ def exchanged_rows(lines, at):
 
 
 def names_in(lines):
-    """The functions and constants that a file brings in or declares itself."""
-    names = set()
+    """The functions and constants that a file brings in or declares itself, and the fields that it names."""
+    names = set(re.findall(r"(?<=[\w\])])\.(\w+)\b(?!\()|^\s+(\w+): ", "\n".join(lines), re.M))
+    names = {name for pair in names for name in pair if name}
     for line in lines:
         match = re.match(r"use (?:\w+::)*(\w+);", line) or re.match(r"\s*(?:pub )?(?:const|fn) (\w+)", line)
         if match:
@@ -128,14 +129,32 @@ def editable(lines):
                 yield at
 
 
+def function_at(file, lines, at):
+    """The path of the function that a line belongs to, inside its crate; nothing for a constant."""
+    module = [part for part in file[len("src/"):-len(".rt")].split("/") if part not in ("lib", "main")]
+    name = None
+    for line in reversed(lines[:at + 1]):
+        match = re.match(r"\s*(?:pub )?(?:extern \"C\" )?fn (\w+)", line)
+        if name is None and line == "}":
+            return ""
+        if name is None and match:
+            name = match.group(1)
+            if not line.startswith(" "):
+                return "::".join(module + [name])
+        elif name and re.match(r"impl (\w+)", line):
+            return "::".join(module + [line.split()[1], name])
+    return ""
+
+
 def edits_in(text, types):
     """Yields (line from 1, rule, old lines, new lines, imports)."""
     lines = text.splitlines()
     names = names_in(lines)
     for at in editable(lines):
         code = lines[at].split(" //")[0]
+        own = function_at("src/.rt", lines, at).split("::")[-1]  # a function that calls itself instead would only not end
         for rule in RULES:
-            for name, start, end, new in rule(code, types, names):
+            for name, start, end, new in rule(code, types, names - {own}):
                 yield at + 1, name, lines[at], lines[at][:start] + new + lines[at][end:], ()
         for name, old, new in (*exchanged_values(lines, at, types), *exchanged_rows(lines, at)):
             yield at + 1, name, old, new, ()
