@@ -179,11 +179,13 @@ def edits_in(text, types):
     """Yields (line from 1, rule, old lines, new lines, imports)."""
     lines = text.splitlines()
     names = names_in(lines)
+    own = set()  # a definition that names itself anew would only not end
     for at, column in editable(lines):
         part = lines[at][column:]
-        own = re.match(NAME, lines[at])  # a definition that names itself anew would only not end
+        if not lines[at].startswith(" "):
+            own = {re.match(NAME, lines[at]).group()}
         for rule in RULES:
-            for name, start, end, new, imports in rule(part, types, names - {own.group()} if own else names):
+            for name, start, end, new, imports in rule(part, types, names - own):
                 yield at + 1, name, lines[at], lines[at][:column] + part[:start] + new + part[end:], imports
         for name, old, new in exchanged_rows(lines, at):
             yield at + 1, name, old, new, ()

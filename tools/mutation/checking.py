@@ -11,7 +11,10 @@ import threading
 
 from .sources import crates_of, text_of
 
-REFUSED, ILL_FORMED, PROVED, UNDECIDED = "refused", "ill-formed", "proved", "not decided"
+REFUSED, ILL_FORMED, MISFIT, PROVED, UNDECIDED = "refused", "ill-formed", "other shape", "proved", "not decided"
+ERROR = re.compile(r"^\S[^\n]*: error[^\n]*(?:\n[ \t]+[^\n]*)*", re.M)  # a message goes on in lines that are indented
+# A proof that names what the edited function no longer has (a need, a field, a step) says nothing about the fact itself.
+SHAPE = re.compile(r"that can be named from here|\bhas no field\b|this pattern needs a|which is not a data type|is in a cycle of calls")
 RUNNING = set()  # the provers that this run has started
 
 
@@ -129,23 +132,28 @@ def end(child):
 
 
 def outcome(status, words):
-    """Refused: the prover got so far as to judge facts, and one fails. Ill-formed: a definition or the code itself is not accepted."""
+    """Refused: a fact fails. Ill-formed: a definition or the code itself is not accepted. Other shape: all that fails is that a proof names what is no more."""
     if status == 0 and re.search(r"^logic=proved", words, re.M):
         return PROVED
     if status == 1 and re.search(r"^logic=not-proved", words, re.M):
-        # a definition or a function of another shape: a cycle of calls has its proof elsewhere
-        other = re.search(r"/(specs/[^:\s]*\.antt|src/[^:\s]*\.rt):\d+:\d+: error|: error: .* is in a cycle of calls", words)
-        return ILL_FORMED if other else REFUSED
+        if re.search(r"/(specs/[^:\s]*\.antt|src/[^:\s]*\.rt):\d+:\d+: error", words):
+            return ILL_FORMED
+        return REFUSED if facts(words) else MISFIT
     return ILL_FORMED if status == 1 else UNDECIDED
 
 
+def facts(words):
+    """The messages that say that a fact fails, and not only that a proof waits for another or has another shape."""
+    failed = [message for message in ERROR.findall(words) if "was not admitted" not in message and not SHAPE.search(message)]
+    return failed + re.findall(r"^fn .*: no proof: .*`search` does not close.*$", words, re.M)
+
+
 def first_error(words):
-    """The first line that says what is wrong: an error, a fact that is not proved, or a function without a proof."""
-    for pattern in (r"^.*: error.*$", r"^error.*$", r"^note: \S*: it is not proved.*$", r"^fn .*(?:not proved|no proof|could not tell).*$", r"^rattle: .*$"):
-        match = re.search(pattern, words, re.M)
-        if match:
-            return match.group()
-    return words.strip().splitlines()[-1] if words.strip() else ""
+    """The first message that says what is wrong: a fact that fails, else any error."""
+    for message in facts(words) + ERROR.findall(words):
+        return message.splitlines()[0]
+    match = re.search(r"^(?:error|fn .*(?:not proved|could not tell)|rattle: ).*$", words, re.M)
+    return match.group() if match else words.strip().splitlines()[-1] if words.strip() else ""
 
 
 def unproved(words):
@@ -153,17 +161,14 @@ def unproved(words):
     return re.findall(r"^fn (\S+): (?:not proved|no proof)", words, re.M)
 
 
-def own_error(words, crate, function):
-    """What says that this function's own proof fails, and not only that one which it calls is not proved; nothing if the words leave that open."""
+def own_fact(words, crate, function):
+    """What says that a fact of this function's own proof fails, and not only that one which it calls is not proved; nothing if the words leave that open."""
     *modules, name = function.split("::")
-    folder = r"/proofs/%s\+?%s/" % ("".join(module + "/" for module in modules), name)  # with + for one that calls itself
-    for line in words.splitlines():
-        if re.search(folder + ".*: error", line) and "was not admitted" not in line and "in a cycle of calls" not in line:
-            return line
-    match = re.search(r"^fn %s::%s: (no proof: .*`search` does not close.*|not proved)$" % (crate, re.escape(function)), words, re.M)
-    return match.group() if match else ""
+    own = r"[^\n]*/proofs/%s\+?%s/|fn %s::%s: " % ("".join(module + "/" for module in modules), name, crate, re.escape(function))  # + for one that calls itself
+    return next((message.splitlines()[0] for message in facts(words) if re.match(own, message)), "")
 
 
-def rejected_at(words, file):
-    """The lines of a source file that the front end rejects."""
-    return {int(line) for line in re.findall(r"/%s:(\d+):\d+: error" % re.escape(file), words)}
+def rejection(words, file, lines):
+    """What the front end says of some lines of a source file."""
+    found = re.findall(r"^(.*/%s:(\d+):\d+: error.*)$" % re.escape(file), words, re.M)
+    return next((words for words, line in found if int(line) in lines), "")

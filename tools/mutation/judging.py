@@ -39,12 +39,12 @@ class Judge:
         spent = (time.monotonic() - began) / len(edits)
         records, left = [], []
         for edit in edits:
-            lines = range(edit.line, edit.line + edit.old.count("\n") + 1)
-            error = checking.own_error(words, crate, edit.function) if result == REFUSED else ""
+            error = checking.own_fact(words, crate, edit.function) if result == REFUSED else ""
+            rejection = checking.rejection(words, edit.file, range(edit.line, edit.line + edit.old.count("\n") + 1)) if result == ILL_FORMED else ""
             if error:
                 records.append(self.record(edit, REFUSED, crate, error, [f"{crate}::{edit.function}"], spent))
-            elif result == ILL_FORMED and checking.rejected_at(words, edit.file) & set(lines):
-                records.append(self.record(edit, ILL_FORMED, crate, checking.first_error(words), [], spent))
+            elif rejection:
+                records.append(self.record(edit, ILL_FORMED, crate, rejection, [], spent))
             else:
                 left.append(edit)
         return records, left
@@ -70,7 +70,7 @@ class Judge:
             began += time.monotonic() - spent
             result, words = self.check(crate, self.copy.folder(crate), self.overlay, began)
             if result != PROVED:
-                # a crate above is not edited: whatever it says, a fact or a type of its own no longer holds
+                # a crate above is not edited: whatever it says, something of its own no longer holds
                 return (UNDECIDED if result == UNDECIDED else REFUSED), crate, words
         return SURVIVOR, "", ""
 

@@ -33,12 +33,11 @@ def constants(line, types, names):
 
 
 def tests(line, types, names):
-    """A branch that is always taken, or never; a test without its negation."""
+    """A branch that is always taken, or never, with the test still made, so that the function keeps its shape; a test without its negation."""
     match = re.search(r"\bif (?!let\b)(.+?) \{", line)
     if match:
-        for constant in ("true", "false"):
-            if match.group(1) != constant:
-                yield "test", match.start(1), match.end(1), constant
+        yield "test", match.start(1), match.end(1), f"({match.group(1)}) | true"
+        yield "test", match.start(1), match.end(1), f"({match.group(1)}) & false"
         if match.group(1).startswith("!"):
             yield "test", match.start(1), match.start(1) + 1, ""
 
@@ -98,10 +97,10 @@ def exchanged_values(lines, at, types):
 
 
 def exchanged_rows(lines, at):
-    """Two tests that follow each other and refuse, in the other order."""
-    one, two = "\n".join(lines[at:at + 3]), "\n".join(lines[at + 3:at + 6])
-    if REFUSAL.match(one) and REFUSAL.match(two) and one != two:
-        yield "rows", one + "\n" + two, two + "\n" + one
+    """Two tests that follow each other and refuse, each with the other's number: the tests themselves exchanged would ask for another proof."""
+    rows = lines[at:at + 6]
+    if all(REFUSAL.match("\n".join(rows[k:k + 3])) for k in (0, 3)) and rows[1] != rows[4]:
+        yield "rows", "\n".join(rows), "\n".join([rows[0], rows[4], *rows[2:4], rows[1], rows[5]])
 
 
 def names_in(lines):

@@ -3,7 +3,7 @@ import collections
 import json
 import os
 
-COLUMNS = ("judged", "refused in its crate", "refused above", "survivors", "not decided", "ill-formed")
+COLUMNS = ("judged", "refused in its crate", "refused above", "survivors", "not decided", "other shape", "ill-formed")
 
 
 def read(path):
@@ -27,7 +27,7 @@ def add(path, record):
 def column(record):
     if record["result"] == "refused":
         return COLUMNS[1] if record["by"] == record["crate"] else COLUMNS[2]
-    return {"survivor": COLUMNS[3], "not decided": COLUMNS[4], "ill-formed": COLUMNS[5]}[record["result"]]
+    return "survivors" if record["result"] == "survivor" else record["result"]
 
 
 def table(records):
