@@ -14,7 +14,7 @@ use Rattle.octets.specs.declared.vectors.Part.{Part}
 use Rattle.bitfields.specs.Field.{number}
 use Rattle.message.specs.Messages.{Message, wholeMessage}
 use Rattle.message.specs.Parts.{messageParts, noParts}
-use Rattle.message.specs.declared.messages.MessageParts.{MessageParts}
+use Rattle.message.specs.declared.signers.SignerParts.{SignerParts}
 use Rattle.records.specs.Records.{recordOf}
 use Rattle.records.specs.declared.Record.{Record}
 use Rattle.store.specs.Slots.{storeLength, slotOf}
@@ -133,10 +133,9 @@ preparation store octets x = preparedOf (run (preparing store octets x))
 
 -- ---- what the code passes on
 
--- the certificate's question from the parts of a message
-unfoldable pub partsQuestion : List ℕ → MessageParts → ℕ → Question
-partsQuestion store m issuer =
-    let g = m .headers .signer in
+-- the certificate's question from the signer's parts
+unfoldable pub partsQuestion : List ℕ → SignerParts → ℕ → Question
+partsQuestion store g issuer =
     pick (eqb (g .kind) 2) (issuerQuestion store (g .signed) (g .signature) (find store issuer)) unasked
 
 abbrev pub judgedRefused : ℕ → Judged

@@ -7,7 +7,7 @@ ghost use Rattle.verification.specs.declared.operations.Decision.{Decisi
 ghost use Rattle.verification.specs.declared.operations.Prepared.{Prepared};
 use crate::judging::Situation;
 use crate::judging::judge;
-use message::messages::MessageParts;
+use message::signers::SignerParts;
 use octets::refusals::ACCEPTED;
 use octets::refusals::BAD_SIGNATURE;
 use octets::vectors::Part;
@@ -93,19 +93,19 @@ fn undecided(number: u8) -> Decision
 }
 
 // The question for the certificate that a message carries, by the key of its issuer.
-fn certificate_question(store: &[u8], m: MessageParts, issuer: u64) -> Question
+fn certificate_question(store: &[u8], signer: SignerParts, issuer: u64) -> Question
     requires { ⌜ length (now store) ≡ 13568 ⌝ }
-    ensures { λ r. ⌜ r ≡ partsQuestion (now (store .entry)) m issuer ⌝ }
+    ensures { λ r. ⌜ r ≡ partsQuestion (now (store .entry)) signer issuer ⌝ }
 {
-    if m.headers.signer.kind != 2 {
+    if signer.kind != 2 {
         return no_question();
     }
     match find_id(store, issuer) {
         Found::Nowhere => no_question(),
         Found::At(slot) => {
             let key = key_at(store, slot);
-            let signed = m.headers.signer.signed;
-            let signature = m.headers.signer.signature;
+            let signed = signer.signed;
+            let signature = signer.signature;
             question_of(signed, key, signature)
         }
     }
@@ -120,14 +120,14 @@ fn prepare_in(store: &[u8], message: &[u8], x: Situation) -> Prepared
     if number != ACCEPTED {
         return unprepared(number);
     }
-    let m = judged.message;
-    let signed = m.signed;
+    let signed = judged.message.signed;
     let key = judged.signer.key;
-    let signature = m.signature.octets;
+    let signature = judged.message.signature.octets;
+    let signer = judged.message.headers.signer;
     Prepared {
         number: ACCEPTED,
         message: question_of(signed, key, signature),
-        certificate: certificate_question(store, m, judged.signer.issuer),
+        certificate: certificate_question(store, signer, judged.signer.issuer),
     }
 }
 
