@@ -5,7 +5,7 @@ use mathlib.Core.List.{List}
 use mathlib.Core.Option.{Option, none, some}
 use Prim.Native.Nat.{ℕ, _-_, _<_}
 use native.Mathlib.Nat.{suc-ne-zero}
-use Rattle.order.specs.Steps.{gives, refused, onward, done, take, run, needs, Coded, no-row, coded}
+use Rattle.order.specs.Steps.{Answer, gives, refused, onward, done, take, run, needs, Coded, no-row, coded}
 use Rattle.order.proofs.Steps.{gives-exactly, refuses-exactly, gives-refused, run-follow, needs-to, needs-from, needs-refuse-first, all-pass, first-fails}
 use Rattle.octets.specs.Refusals.{UNKNOWN, CHAIN-TOO-LONG}
 use Rattle.scope.specs.Issued.{issuedRows, issuedNumber}
@@ -21,7 +21,7 @@ use Rattle.chain.specs.declared.subjects.Place.{Place}
 use Rattle.chain.specs.declared.subjects.Place.the-variants.{Anywhere, At}
 use Rattle.chain.specs.Walk.{placeRows, ownRows, climb}
 use Rattle.chain.specs.Chains.{Root}
-use Rattle.chain.specs.Stored.{slotOr, subjectOr, subjectAt, issuerIn, walkNumber, ownNumber, linked, upward}
+use Rattle.chain.specs.Stored.{slotOr, subjectOr, subjectAt, issuerIn, walkNumber, ownNumber, linked, upward, walkedOn, Leads}
 use Rattle.chain.proofs.Coding as coding
 
 place-coded : (p : Place) (s : Scope) → Coded (placeRows p s)
@@ -91,6 +91,10 @@ up-found l c j e = go (find l (c .issuer)) refl e
         let q : find l (c .issuer) ≡ some j = f ∙ ap (λ (k : ℕ). some k) (linked-slot l (c .scope) i j e) in
         (find-finds l (c .issuer) j q .0, found-again l (c .issuer) j q)
 
+-- what a step leads to
+pub led : (l : List ℕ) (n : ℕ) (a : Answer ℕ) (j : ℕ) → a ≡ gives j → Leads l n a → Leads l n (gives j)
+led l n a j e h = rw e at h
+
 module _ (l : List ℕ) where
   module _ (gone : ℕ → Bool) (t : ℕ) (p : Place) where
     pub at-own : (n : ℕ) (c : Subject) → ¬ (ownNumber gone t p c ≡ 0) → ownNumber gone t p c ≡ walkNumber gone l t p n c
@@ -113,3 +117,11 @@ module _ (l : List ℕ) where
         → walkNumber gone l t p (n - 1) (subjectAt l j) ≡ walkNumber gone l t p n c
     unfolding ownNumber walkNumber
     at-on n c j e r z u = rw (coding.at-up (issuerIn l) (ownRows gone t p) (rows gone t p) n c e r z, step-slot l c, u)
+
+    -- the step up, where one more may follow
+    pub at-up : (n : ℕ) (c : Subject) (a : Answer ℕ) → ownNumber gone t p c ≡ 0 → ¬ Root c → ¬ (n ≡ 0) → a ≡ upward l c
+        → Leads l n a × (walkedOn gone l t p n a ≡ walkNumber gone l t p n c)
+    at-up n c (gives j) e r z u =
+        let found = up-found l c j (sym u) in
+        ((z, found .0, found .1), at-on n c j e r z (sym u))
+    at-up n c (refused k) e r z u = (tt, at-stop n c k e r z (sym u))

@@ -4,14 +4,26 @@ ghost use Prim.Native.Nat.{_<_};
 ghost use lib.ListN.{length};
 ghost use Rattle.store.specs.Slots.{idAt};
 ghost use Rattle.store.specs.Search.{find};
-ghost use Rattle.chain.specs.Stored.{subjectAt, alsoAt, walkNumber};
+ghost use Rattle.chain.specs.Stored.{subjectAt, alsoAt, walkNumber, upOf, Leads, walkedOn};
 use crate::steps::Up;
-use crate::steps::own_at;
-use crate::steps::step_up;
+use crate::steps::step_at;
 use crate::subjects::Place;
-use octets::refusals::ACCEPTED;
-use octets::refusals::CHAIN_TOO_LONG;
-use store::fields::kind_at;
+
+// The walk goes on with the issuer that a step found, if it found one; at most `left` certificates may follow the one that the step
+// was made from. It calls itself, and the step is a call of its own, so that each of eight certificates takes little stack.
+fn walk_on(store: &[u8], up: Up, second: u64, place: Place, left: u8, gone: usize) -> u8
+    requires { ⌜ (length (now store) ≡ 13568) × Leads (now store) left (upOf up) ⌝ }
+    ensures { λ r. ⌜ r ≡ walkedOn (alsoAt (now (store .entry)) gone) (now (store .entry)) second place left (upOf up) ⌝ }
+{
+    match up {
+        Up::Stop(number) => number,
+        Up::On(issuer) => {
+            let rest = left - 1;
+            let next = step_at(store, issuer, second, place, rest, gone);
+            walk_on(store, next, second, place, rest, gone)
+        }
+    }
+}
 
 // The walk from a stored certificate, which its id finds; at most `left` certificates may follow it. The slot `gone` counts as
 // withdrawn too (64: none does).
@@ -19,25 +31,6 @@ pub fn walk_at(store: &[u8], slot: usize, second: u64, place: Place, left: u8, g
     requires { ⌜ (slot < 64) × (length (now store) ≡ 13568) × (find (now store) (idAt (now store) slot) ≡ some slot) ⌝ }
     ensures { λ r. ⌜ r ≡ walkNumber (alsoAt (now (store .entry)) gone) (now (store .entry)) second place left (subjectAt (now (store .entry)) slot) ⌝ }
 {
-    let mut at = slot;
-    let mut more = left;
-    loop {
-        let refusal = own_at(store, at, second, place, gone);
-        if refusal != ACCEPTED {
-            return refusal;
-        }
-        if kind_at(store, at) == 4 {
-            return ACCEPTED;
-        }
-        if more == 0 {
-            return CHAIN_TOO_LONG;
-        }
-        match step_up(store, at) {
-            Up::Stop(number) => return number,
-            Up::On(issuer) => {
-                at = issuer;
-                more -= 1;
-            }
-        }
-    }
+    let first = step_at(store, slot, second, place, left, gone);
+    walk_on(store, first, second, place, left, gone)
 }
