@@ -53,7 +53,7 @@ found-stored l c j e = go (find l (c .issuer)) refl e
 -- from a stored certificate on, each of a chain is stored
 chain-stored : (l : List ℕ) (Own : Subject → Type 0) (n : ℕ) (c : Subject) → StoredIn l c → Chain (issuerIn l) Own n c → Chain (issuerIn l) (λ d. Own d × StoredIn l d) n c
 chain-stored l Own n c s (anchor w r) = anchor (w, s) r
-chain-stored l Own (suc n) c s (link {j = j} w f k) = link (w, s) f (chain-stored l Own n j (found-stored l c j (f .found)) k)
+chain-stored l Own (suc n) c s (link {j = j} w z f k) = link (w, s) z f (chain-stored l Own n j (found-stored l c j (f .found)) k)
 
 -- a stored certificate that passed before and does not after passed through x, which is stored and passed too
 pub passed-stored : (gone gone' : ℕ → Bool) (x : ℕ) → ((y : ℕ) → ¬ (y ≡ x) → gone' y ≡ gone y) → (l : List ℕ) (t : ℕ) (p : Place) (n : ℕ) (c : Subject)
@@ -67,11 +67,11 @@ passed-stored gone gone' x same l t p n c s k f =
 
 root-stored : (l : List ℕ) (Own : Subject → Type 0) (n : ℕ) (c : Subject) → StoredIn l c → (k : Chain (issuerIn l) Own n c) → StoredIn l (top k)
 root-stored l Own n c s (anchor w r) = s
-root-stored l Own (suc n) c s (link {j = j} w f k) = root-stored l Own n j (found-stored l c j (f .found)) k
+root-stored l Own (suc n) c s (link {j = j} w z f k) = root-stored l Own n j (found-stored l c j (f .found)) k
 
 root-found : (l : List ℕ) (Own : Subject → Type 0) (n : ℕ) (c : Subject) → ¬ Root c → (k : Chain (issuerIn l) Own n c) → StoredIn l (top k)
 root-found l Own n c no-root (anchor w r) = absurd (no-root r)
-root-found l Own (suc n) c no-root (link {j = j} w f k) = root-stored l Own n j (found-stored l c j (f .found)) k
+root-found l Own (suc n) c no-root (link {j = j} w z f k) = root-stored l Own n j (found-stored l c j (f .found)) k
 
 stranger : (gone gone' : ℕ → Bool) (x : ℕ) → ((y : ℕ) → ¬ (y ≡ x) → gone' y ≡ gone y) → (l : List ℕ) (t : ℕ) (p : Place) (n : ℕ) (c : Subject)
     → ¬ List·Memᴰ x (meets (issuerIn l) (ownRows gone t p) n c) → walkNumber gone' l t p n c ≡ walkNumber gone l t p n c

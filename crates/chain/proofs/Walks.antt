@@ -5,7 +5,7 @@ use mathlib.Core.Bool.{Bool, true, false, not}
 use mathlib.Core.List.{List, [], _∷_}
 use Prim.Native.Nat.{ℕ, zero, suc}
 use lib.Dec.{leb, ltb}
-use borrow.Author.Tests.{leb-true, ltb-true, le-leb, lt-ltb, eqb-true, eq-eqb, not-true}
+use borrow.Author.Tests.{leb-true, ltb-true, le-leb, lt-ltb, eqb-true, eqb-false, eq-eqb, not-true}
 use Rattle.order.specs.Steps.{Answer, gives, number, Steps, done, stop, fork, run, Well, well, Gives, And, Named, Numbered, Check, needs, Pass}
 use Rattle.order.proofs.Steps.{gives-exactly, zero-exactly, needs-to, needs-from}
 use Rattle.octets.specs.Refusals.{CHAIN-TOO-LONG}
@@ -35,7 +35,7 @@ module _ (up : Subject → Answer Subject) where
         go ih (w, inl h) = anchor w (eqb-true _ _ (h .0))
         go ih (w, inr (r, (j, s, x))) =
             let y = needs-to (issuedRows (c .scope) (j .scope)) (walk up own n j) well x in
-            link w (record { found = s; issued = pass-exactly (c .scope) (j .scope) .0 (y .0) }) (ih j (y .1))
+            link w (eqb-false _ _ r) (record { found = s; issued = pass-exactly (c .scope) (j .scope) .0 (y .0) }) (ih j (y .1))
 
     -- a root, or what follows
     root-or : (b : Bool) (s : Steps Well) → ((b ≡ true) ⊎ Gives s well) → Gives (fork b (done well) s) well
@@ -48,7 +48,7 @@ module _ (up : Subject → Answer Subject) where
     chain-from zero c (anchor w r) = needs-from (own c) _ well w (root-or (isRoot c) (stop CHAIN-TOO-LONG) (inl (eq-eqb _ _ r)))
     chain-from (suc n) c (anchor w r) =
         needs-from (own c) _ well w (root-or (isRoot c) (climb up c (λ j. walk up own n j)) (inl (eq-eqb _ _ r)))
-    chain-from (suc n) c (link {j = j} w f k) =
+    chain-from (suc n) c (link {j = j} w z f k) =
         needs-from (own c) _ well w (root-or (isRoot c) (climb up c (λ j. walk up own n j))
         (inr (j, f .found, needs-from (issuedRows (c .scope) (j .scope)) (walk up own n j) well (pass-exactly (c .scope) (j .scope) .1 (f .issued)) (chain-from n j k))))
 
@@ -79,7 +79,7 @@ module _ (up : Subject → Answer Subject) where
   -- chains of certificates that each are so
   pub chain-map : {A B : Subject → Type 0} → ((c : Subject) → A c → B c) → {n : ℕ} {c : Subject} → Chain up A n c → Chain up B n c
   chain-map f (anchor {c = c} w r) = anchor (f c w) r
-  chain-map f (link {c = c} w i k) = link (f c w) i (chain-map f k)
+  chain-map f (link {c = c} w z i k) = link (f c w) z i (chain-map f k)
 
 -- the rows of a place
 place-to : (p : Place) (s : Scope) → Pass (placeRows p s) → InPlace p s

@@ -1,4 +1,5 @@
--- What each function of the C interface answers, and what its buffer then holds. A refusal leaves the buffer as it was.
+-- What read, id, prepare, decide and list answer in C, and what their buffers then hold; the others have their operation's own definition. A refusal
+-- leaves the buffer as it was.
 use Prim.Native.Nat.{ℕ}
 use mathlib.Core.List.{List}
 use lib.ListN.{length}

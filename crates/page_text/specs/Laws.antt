@@ -29,7 +29,7 @@ pub record Laws : Type 0 where
   -- else the first line comes, then the lines of exactly the slots that list answers, in its order, then their count
   pub page : (input : List ℕ) → length input ≡ inputLength → answerTo input .number ≡ ACCEPTED
       → pageText input ≡ headOf (idIn input) (secondIn input) ++ linesOf (storeIn input) (named (answerTo input)) ++ countOf (answerTo input .n)
-  -- between the first line and the last there are as many lines as the count says, which are slots of the store
+  -- between the first line and the last there are as many lines as the count says, at most 64; each names a slot
   pub counted : (input : List ℕ) → lineCount (linesOf (storeIn input) (named (answerTo input))) ≡ answerTo input .n
   pub in-store : (input : List ℕ) (i : ℕ) → i < answerTo input .n → getD (named (answerTo input)) i 0 < 64
   pub few : (input : List ℕ) → answerTo input .n ≤ 64

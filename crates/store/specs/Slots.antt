@@ -19,6 +19,7 @@ abbrev pub withSlot : List ℕ → ℕ → List ℕ → List ℕ
 withSlot l i image = take (i * 212) l ++ image ++ drop (i * 212 + 212) l
 
 -- the states of a slot
+-- the states of a slot: empty, held, withdrawn (WITHDRAWN is the refusal's number)
 abbrev pub EMPTY : ℕ
 EMPTY = 0
 

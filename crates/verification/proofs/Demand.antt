@@ -76,7 +76,7 @@ no-root r k z = let e : _≡_ {A = ℕ} 1 4 = sym k ∙ z in omega arith
 chain-issuer : (l : List ℕ) (Own : Subject → Type 0) (n : ℕ) (r : Record) → r .scope .kind ≡ 1 → Chain (issuerIn l) Own n (subjectOf r) → (i : ℕ) × (find l (number (r .issuer)) ≡ some i)
 unfolding subjectOf
 chain-issuer l Own n r k (anchor w t) = absurd (no-root r k t)
-chain-issuer l Own (suc n) r k (link {j = j} w f c) = issuer-slot l (subjectOf r) j (f .found)
+chain-issuer l Own (suc n) r k (link {j = j} w z f c) = issuer-slot l (subjectOf r) j (f .found)
 
 -- the certificate's question
 issuer-asked : (store : List ℕ) (m : Message) (issuer i : ℕ) → m .headers .signer .kind ≡ 2 → find store issuer ≡ some i → certificateQuestion store m issuer ≡ issuerQuestion store (m .headers .signer .certificate .signed) (m .headers .signer .certificate .signature .octets) (some i)

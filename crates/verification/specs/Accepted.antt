@@ -58,7 +58,7 @@ pub record Passing (store octets : List ℕ) (x : Situation) (m : Message) (r : 
   -- its age and its expiration
   pub age : Fresh (m .headers .fields .generation .time) (x .time) (allowedAge (x .age))
   pub expiration : m .headers .fields .expiration .given ≡ true → wholeSecond (x .time) < m .headers .fields .expiration .second
-  -- its signer: stored, or carried and the same as a stored copy
+  -- its signer: stored, or carried and, if a copy of it is stored, the same as that
   pub signs : Signs store octets m r
   -- a ticket
   pub kind : r .scope .kind ≡ 1

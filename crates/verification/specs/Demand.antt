@@ -1,4 +1,5 @@
--- Demand 2, over the definitions that the contracts of `prepare` and `decide` cite (proofs/Demand.antt).
+-- Demand 2 on messages, over the definitions that the contracts of `prepare` and `decide` cite (proofs/Demand.antt). Its half on certificates
+-- ("admitted exactly if its admission rules hold") is `installed-exactly`, `admitted-exactly`, `refused-first` and `issuer-first` of admission/specs/Laws.
 use mathlib.Core.Path.{_≡_}
 use mathlib.Core.Logic.{_↔_, _≢_}
 use mathlib.Core.List.{List, []}

@@ -12,7 +12,7 @@ use Rattle.validity.specs.Laws.{Valid}
 use Rattle.withdrawal.specs.Order.{asking, asked, drawing, withdrawal, refusedList, page}
 use Rattle.withdrawal.specs.Demand.{Demand}
 
--- slot c holds the certificate that is asked for, and it may be withdrawn
+-- slot c holds the certificate that is asked for, and it is not withdrawn yet
 pub record Askable (s id : List ℕ) (c : ℕ) : Type 0 where
   pub valid : Valid s
   pub id-long : length id ≡ 8
