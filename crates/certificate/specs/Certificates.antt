@@ -1,4 +1,4 @@
--- A certificate (001, clause 6.1), at a position of a container, up to its signature. The signature covers all octets before it.
+-- A certificate (001, clause 6.1) at a position of a container, ending with its signature, which covers all octets of the certificate before it.
 use Prim.Native.Nat.{ℕ, _-_}
 use mathlib.Core.List.{List}
 use Rattle.octets.specs.Reading.{Out, got, bind}

@@ -1,4 +1,4 @@
--- The first header, the signer (001, clauses 4.2.10, 5.4 and 5.5): an id, or a certificate.
+-- The first header, the signer (001, clauses 4.2.10, 4.2.11, 5.4 and 5.5): an id, or a certificate.
 use Prim.Native.Nat.{ℕ, _+_}
 use mathlib.Core.List.{List}
 use lib.ListN.{length, getD}
@@ -26,7 +26,7 @@ unsigned = record { kind = 0; digest = nowhere; certificate = blank }
 unfoldable pub namedAt : List ℕ → ℕ → Out Signer
 namedAt s at = bind (runAt 8 s at) (λ start end. got (record { kind = 1; digest = part start 8; certificate = blank }) end)
 
--- type 2: a certificate, whose container is the header vector, up to its signature
+-- type 2: a certificate, ending with its signature; its container is the header vector
 unfoldable pub carriedAt : List ℕ → ℕ → Out Signer
 carriedAt s at = bind (certificateAt s at) (λ certificate end. got (record { kind = 2; digest = nowhere; certificate = certificate }) end)
 

@@ -1,4 +1,5 @@
--- What is read of a message: its contents, with parts of the input for octets. Of a header 1 and of digests nothing is kept.
+-- What is read of a message: its contents, with parts of the input for octets. Of a header 1, of digests and of the elevation
+-- nothing is kept.
 use Prim.Native.Nat.{ℕ, _+_}
 use mathlib.Core.Bool.{true}
 use mathlib.Core.Option.{Option, none, some}

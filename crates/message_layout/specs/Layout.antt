@@ -10,7 +10,7 @@ use Rattle.layout.specs.Layout as certificate
 use Rattle.layout.specs.Layout.{signatureOctets}
 use Rattle.message_layout.specs.Contents.{Signer, named, carried, Deviation, Location, Contents}
 
--- type 1 and an id; type 2 and a certificate (001, clause 4.2.10)
+-- type 1 and an id; type 2 and a certificate (001, clauses 4.2.10 and 4.2.11)
 abbrev pub signerOctets : Signer → List ℕ
 signerOctets (named id) = 1 ∷ id
 signerOctets (carried x) = 2 ∷ certificate.written x
@@ -38,7 +38,7 @@ digestOctets ds = allOctets (λ (d : List ℕ). d) ds
 abbrev pub digestsOctets : List (List ℕ) → List ℕ
 digestsOctets ds = vectorOctets (digestOctets ds)
 
--- header 128 first, then 0 to 5, ascending (clauses 5.4 and 5.5)
+-- headers 0 to 5, ascending (clauses 5.1 and 5.5)
 abbrev pub fieldOctets : Contents → List ℕ
 fieldOctets c =
     0 ∷ (generationOctets (c .generation)
@@ -48,6 +48,7 @@ fieldOctets c =
     ++ (elementOctets 4 digestsOctets (c .digests)
     ++ (5 ∷ intxOctets (c .aid)))))))
 
+-- header 128, the signer, first (clauses 5.1 and 5.4)
 abbrev pub headerOctets : Contents → List ℕ
 headerOctets c = 128 ∷ (signerOctets (c .signer) ++ fieldOctets c)
 

@@ -12,7 +12,7 @@ use Rattle.octets.specs.Coordinates.{latitudeAt}
 use Rattle.withdrawal.specs.Order.{written, page}
 use Rattle.worked_numbers.specs.Example.{shown}
 
--- octets, and the value with the number of octets read, or the refusal;
+-- octets, and the value with the number of octets read, or the refusal
 pub data Case : Type 0 where
   intx : List ℕ → Out ℕ → Case
   duration : List ℕ → Out ℕ → Case
