@@ -20,9 +20,9 @@ use Rattle.writing.proofs.Alternatives.{optional-exact}
 use Rattle.writing.proofs.Elements.{may-follow, begins-append, begins-element}
 use Rattle.writing.proofs.Sequences.{seq, last, end}
 use Rattle.writing.proofs.Shapes.{before, exactly, reshape-before}
-use Rattle.layout.specs.WellFormed.{Time}
+use Rattle.layout.specs.WellFormed.{Time32}
 use Rattle.message_layout.specs.Contents.{Deviation, Location}
-use Rattle.message_layout.specs.WellFormed.{LongTime, WellFormedDeviation, WellFormedLocation, WellFormedDigests}
+use Rattle.message_layout.specs.WellFormed.{Time64, WellFormedDeviation, WellFormedLocation, WellFormedDigests}
 use Rattle.message_layout.specs.Layout.{generationOctets, deviationOctets, expirationOctets, locationOctets, digestOctets, digestsOctets}
 use Rattle.message_layout.specs.Fields.{generationFields, secondFields, expirationFields, placeFields, locationFields, aidFields}
 use Rattle.message_layout.proofs.Times.{generation-exact, deviation-exact, expiration-exact}
@@ -39,9 +39,9 @@ pub record Given : Type 0 where
   pub aid : Option ℕ
 
 pub record WellFormedGiven (x : Given) : Type 0 where
-  pub generation : IfThere LongTime (x .generation)
+  pub generation : IfThere Time64 (x .generation)
   pub deviation : IfThere WellFormedDeviation (x .deviation)
-  pub expiration : IfThere Time (x .expiration)
+  pub expiration : IfThere Time32 (x .expiration)
   pub location : IfThere WellFormedLocation (x .location)
   pub digests : IfThere (λ ds. WellFormedDigests ds × (length (digestOctets ds) < 2 ^ 28)) (x .digests)
   pub aid : IfThere (λ v. v < 2 ^ 28) (x .aid)

@@ -14,15 +14,15 @@ use Rattle.writing.proofs.Numbers.{octet-exact, unsigned-exact}
 use Rattle.writing.proofs.Vectors.{run-exact}
 use Rattle.writing.proofs.Sequences.{seq, last}
 use Rattle.writing.proofs.Shapes.{before, exactly, reshape}
-use Rattle.layout.specs.WellFormed.{Time}
-use Rattle.message_layout.specs.WellFormed.{LongTime, WellFormedDeviation}
+use Rattle.layout.specs.WellFormed.{Time32}
+use Rattle.message_layout.specs.WellFormed.{Time64, WellFormedDeviation}
 use Rattle.message_layout.specs.Layout.{generationOctets, deviationOctets, expirationOctets}
 use Rattle.message_layout.specs.Fields.{generationFields, secondFields}
 
-pub generation-exact : Exact LongTime generationOctets (λ at. generationFields) (λ s b. bind (unsignedAt 8 s b) (λ time next. got (generationFields time) next))
+pub generation-exact : Exact Time64 generationOctets (λ at. generationFields) (λ s b. bind (unsignedAt 8 s b) (λ time next. got (generationFields time) next))
 generation-exact = exactly (last (λ a time n. generationFields time) (before (unsigned-exact 8 (omega arith)))) (λ x rest g. tt)
 
-pub expiration-exact : Exact Time expirationOctets (λ at. secondFields) (λ s b. bind (unsignedAt 4 s b) (λ second next. got (secondFields second) next))
+pub expiration-exact : Exact Time32 expirationOctets (λ at. secondFields) (λ s b. bind (unsignedAt 4 s b) (λ second next. got (secondFields second) next))
 expiration-exact = exactly (last (λ a second n. secondFields second) (before (unsigned-exact 4 (omega arith)))) (λ x rest g. tt)
 
 -- the value of a time whose octets are not read as a number

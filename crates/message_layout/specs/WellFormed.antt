@@ -6,7 +6,7 @@ use Rattle.writing.specs.Written.{Octets}
 use Rattle.writing.specs.Elements.{IfThere}
 use Rattle.writing.specs.Items.{Each}
 use Rattle.layout.specs.WellFormed as certificate
-use Rattle.layout.specs.WellFormed.{Opaque, Time, Within, WellFormedSignature}
+use Rattle.layout.specs.WellFormed.{Opaque, Time32, Within, WellFormedSignature}
 use Rattle.message_layout.specs.Contents.{Signer, named, carried, Deviation, Location, Contents}
 use Rattle.message_layout.specs.Layout.{written}
 
@@ -15,13 +15,13 @@ abbrev pub WellFormedSigner : Signer → Type 0
 WellFormedSigner (named id) = Opaque 8 id
 WellFormedSigner (carried x) = certificate.WellFormed x
 
--- Time64
-abbrev pub LongTime : ℕ → Type 0
-LongTime t = t < 2 ^ 64
+-- microseconds in 64 bits (001, clause 4.2.15)
+abbrev pub Time64 : ℕ → Type 0
+Time64 t = t < 2 ^ 64
 
 -- a time, and one octet of deviation
 pub record WellFormedDeviation (d : Deviation) : Type 0 where
-  pub time : LongTime (d .time)
+  pub time : Time64 (d .time)
   pub confidence : d .confidence < 256
 
 -- a place, and two octets
@@ -37,9 +37,9 @@ WellFormedDigests ds = Each (Opaque 3) ds
 -- Nothing is asked of required headers and of their order: contents and layout have no others.
 pub record WellFormed (c : Contents) : Type 0 where
   pub signer : WellFormedSigner (c .signer)
-  pub generation : LongTime (c .generation)
+  pub generation : Time64 (c .generation)
   pub deviation : IfThere WellFormedDeviation (c .deviation)
-  pub expiration : IfThere Time (c .expiration)
+  pub expiration : IfThere Time32 (c .expiration)
   pub location : IfThere WellFormedLocation (c .location)
   pub digests : IfThere WellFormedDigests (c .digests)
   -- an IntX
