@@ -1,5 +1,10 @@
 //! Kinds of certificates.
 
+use nattveldi::Kind;
+
+pub const TICKET: u8 = Kind::Ticket as u8;
+pub const ROOT: u8 = Kind::Root as u8;
+
 /// The project's word.
 pub fn word(kind: u8) -> &'static str {
     match kind {
