@@ -8,8 +8,12 @@
  *
  *   for name in root unit; do cut -d# -f1 examples/$name.hex | xxd -r -p > $name.octets; done
  *   ./admit root.octets unit.octets
+ *
+ * The exit status is 0, 1 if a certificate was refused, or 2 for bad usage or a
+ * file that cannot be read.
  */
 #include <stdio.h>
+#include <stdlib.h>
 
 #include "nattveldi.h"
 
@@ -20,13 +24,21 @@
 /* The chip's octet for a good signature. Here no signature is checked. */
 #define GOOD 1
 
+static void fail(const char *what, const char *name)
+{
+    fprintf(stderr, "admit: %s%s\n", what, name);
+    exit(2);
+}
+
 static size_t read_file(const char *name, uint8_t *octets)
 {
     size_t length;
     FILE *file = fopen(name, "rb");
     if (file == NULL)
-        return 0;
+        fail("cannot open ", name);
     length = fread(octets, 1, MOST_OCTETS, file);
+    if (ferror(file))
+        fail("cannot read ", name);
     fclose(file);
     return length;
 }
@@ -52,6 +64,8 @@ int main(int count, char **names)
     static uint8_t store[NATTVELDI_STORE_LENGTH]; /* zeros: an empty store */
     uint8_t certificate[MOST_OCTETS];
     int i, refused = 0;
+    if (count < 2)
+        fail("usage: admit ROOT CERTIFICATE..", "");
     for (i = 1; i < count; i++) {
         size_t length = read_file(names[i], certificate);
         uint8_t number =

@@ -15,9 +15,10 @@
  *   ./decide 694700001000000 root.octets authority.octets \
  *       message-with-certificate.octets message-by-id.octets
  *
- * The exit status is 0, 1 if something was refused, or 2 for bad usage or a file
- * that cannot be read.
+ * The exit status is 0, 1 if the root, the authority or a message was refused, or
+ * 2 for bad usage or a file that cannot be read.
  */
+#include <errno.h>
 #include <stdio.h>
 #include <stdlib.h>
 
@@ -155,18 +156,26 @@ static int judge(uint8_t *store, const struct octets *message, uint64_t now)
     return 0;
 }
 
+static uint64_t microseconds(const char *word)
+{
+    unsigned long long number;
+    char *end;
+    errno = 0; /* strtoull leaves it alone unless the number is too large */
+    number = strtoull(word, &end, 10);
+    if (word[0] < '0' || word[0] > '9' || *end != '\0' || errno != 0)
+        fail("no number of microseconds: ", word);
+    return number;
+}
+
 int main(int count, char **words)
 {
     static uint8_t store[NATTVELDI_STORE_LENGTH]; /* zeros: an empty store */
     static struct octets octets;
     uint64_t now;
-    char *end;
     int i, any_refused;
     if (count < 4)
         fail("usage: decide NOW ROOT AUTHORITY MESSAGE..", "");
-    now = strtoull(words[1], &end, 10);
-    if (words[1][0] < '0' || words[1][0] > '9' || *end != '\0')
-        fail("no number of microseconds: ", words[1]);
+    now = microseconds(words[1]);
     read_file(words[2], &octets);
     any_refused = refused("install", nattveldi_install(store, sizeof store, octets.at,
                                                        octets.length, GOOD));

@@ -9,6 +9,9 @@
  *
  *   for name in root unit; do cut -d# -f1 examples/$name.hex | xxd -r -p > $name.octets; done
  *   ./withdraw 694700000 root.octets unit.octets
+ *
+ * The exit status is 0, 1 if the withdrawal was refused, or 2 for bad usage or a
+ * file that cannot be read.
  */
 #include <stdio.h>
 #include <stdlib.h>
@@ -24,13 +27,21 @@
 /* The chip's octet for a good signature. Here no signature is checked. */
 #define GOOD 1
 
+static void fail(const char *what, const char *name)
+{
+    fprintf(stderr, "withdraw: %s%s\n", what, name);
+    exit(2);
+}
+
 static size_t read_file(const char *name, uint8_t *octets)
 {
     size_t length;
     FILE *file = fopen(name, "rb");
     if (file == NULL)
-        return 0;
+        fail("cannot open ", name);
     length = fread(octets, 1, MOST_OCTETS, file);
+    if (ferror(file))
+        fail("cannot read ", name);
     fclose(file);
     return length;
 }
@@ -84,12 +95,25 @@ static void print_page(const uint8_t *store, const uint8_t *id, uint32_t second)
     fwrite(text, 1, nattveldi_page(input, sizeof input, text, sizeof text), stdout);
 }
 
+/* Above all seconds is also what strtoull answers for a number too large for it. */
+static uint32_t second_of(const char *word)
+{
+    char *end;
+    unsigned long long number = strtoull(word, &end, 10);
+    if (word[0] < '0' || word[0] > '9' || *end != '\0' || number > UINT32_MAX)
+        fail("no second since the start of 2004: ", word);
+    return (uint32_t)number;
+}
+
 int main(int count, char **words)
 {
     static uint8_t store[NATTVELDI_STORE_LENGTH]; /* zeros: an empty store */
     uint8_t id[ID_LENGTH] = {0}, number;
-    uint32_t second = count > 1 ? (uint32_t)strtoul(words[1], NULL, 10) : 0;
+    uint32_t second;
     int i;
+    if (count < 3)
+        fail("usage: withdraw SECOND ROOT CERTIFICATE..", "");
+    second = second_of(words[1]);
     for (i = 2; i < count; i++)
         printf("%s %d\n", i == 2 ? "install" : "admit", put(store, words[i], i == 2, id));
     draw(store, id, second);

@@ -33,7 +33,8 @@ enum {
                                      * 2,048 */
     NATTVELDI_CUT = 4,              /* a field or vector passes the end of what holds it */
     NATTVELDI_MALFORMED = 5,        /* against the layout's rules */
-    NATTVELDI_UNSUPPORTED = 6,      /* a version, type or algorithm that is not read here */
+    NATTVELDI_UNSUPPORTED = 6,      /* a version, type or algorithm that is not read here, a number or length
+                                     * over 268,435,455, a seventeenth permission or a fifth rectangle */
     NATTVELDI_UNKNOWN = 7,          /* an issuer, a message's signer, or the id that is asked for, is not in
                                      * the store */
     NATTVELDI_WITHDRAWN = 8,        /* an issuer, a message's signer, or the certificate under the id, is

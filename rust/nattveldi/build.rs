@@ -61,7 +61,7 @@ fn named_folder(folder: PathBuf) -> Result<PathBuf, String> {
     }
     if !has_archive(&folder) {
         return Err(format!(
-            "{named}, where there is no {ARCHIVE}; `rt staticlib nattveldi_c` makes one"
+            "{named}, where there is no {ARCHIVE}: unset it, or copy the archive there"
         ));
     }
     Ok(folder)

@@ -1,4 +1,4 @@
-"""Where a definition can be edited, and how. A rule gets a piece of text and yields (start, end, new text, imports)."""
+"""Where a definition can be edited, and how. A rule gets a piece of text and yields (rule, start, end, new text, imports)."""
 import re
 
 from .sources import NAME, split_at

@@ -6,7 +6,7 @@ from . import antt_rules, rattle_rules
 from .edits import Edit
 from .sources import files_of, text_of
 
-# The crates, the definitions of public operations first. What is not listed has no functions or definitions of its own.
+# The crates, the definitions of public operations first. Programs, benchmark archives and computed tables are left out.
 CRATES = ("certificate attributes restrictions headers message octets geo scope records store validity chain withdrawal page_text text entries "
           "admission signing verification field_words answer_words nattveldi_c order bitfields sha256 layout message_layout writing").split()
 SKIPPED = ("specs/Example.antt",)  # computed examples: a table of octets, guarded by the fact that it is computed

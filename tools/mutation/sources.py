@@ -49,7 +49,6 @@ class Types:
         self.functions = {}  # a function -> the types of its parameters and of its answer
         self.constants = {}  # a constant of the code -> its type
         self.siblings = collections.defaultdict(set)  # a field -> the fields of the same type beside it
-        self.fields = {}  # a field -> its type
         for crate in crates:
             for path in files_of(root, crate):
                 text = text_of(root, "crates", crate, path)
@@ -73,7 +72,6 @@ class Types:
 
     def _siblings(self, fields):
         for name, kind in fields:
-            self.fields[name] = kind
             self.siblings[name] |= {other for other, same in fields if same == kind and other != name}
 
 

@@ -76,7 +76,7 @@ fn id_zero(entries: &mut [Entry], at: usize, _: &mut Random) {
     }
 }
 
-/// The last permission is another one, or the issuer's first is.
+/// The last permission is another one, or the issuer has only its first left.
 fn lacking_permission(entries: &mut [Entry], at: usize, random: &mut Random) {
     let other = random.pick(&[0, 36, 37, MOST_INTX]);
     if random.once_in(2) {

@@ -14,13 +14,15 @@
 //!   them, [`questions`] asks about one of its certificates; [`standing`] says
 //!   what stands, [`outcome`] is the paper's answer.
 //! - Signed messages: [`message`], with ids worked out in [`sha256`].
-//! - [`trouble`] makes sound requests bad; [`counts`] has what came up in a run.
+//! - [`trouble`] makes sound requests bad; [`counts`] has what came up in a run;
+//!   [`buffers`] is about what the caller lends.
 //! - [`soak`] makes requests of all kinds on a store that lives on; [`lines`]
 //!   writes one down.
 //! - [`sides`], [`changes`], [`lists`], [`withdrawals`], [`pages`] and
 //!   [`judgements`] ask a side, [`compare`] holds the sides against each other.
 
 pub mod answers;
+pub mod buffers;
 pub mod changes;
 pub mod compare;
 pub mod counts;

@@ -17,4 +17,3 @@ pub mod show;
 pub mod store;
 pub mod text;
 pub mod verdict;
-pub mod version;

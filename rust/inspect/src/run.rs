@@ -1,6 +1,6 @@
 //! Does what the command line asks.
 
-use nattveldi::Situation;
+use nattveldi::{Situation, VERSION};
 
 use crate::arguments::{Asked, Entry, Example, Order, Source, Target};
 use crate::example;
@@ -10,7 +10,6 @@ use crate::input::input;
 use crate::output::{to_file, Outcome};
 use crate::reading;
 use crate::show::{self, Given, Page};
-use crate::version::VERSION;
 
 pub fn run(order: &Order) -> Result<Outcome, String> {
     match order {
@@ -126,9 +125,11 @@ fn build(asked: Example, target: &Target) -> Result<Outcome, String> {
         to_file(file, &out)?;
         out.clear();
     }
+    // A store holds no signatures.
+    let has_signatures = asked != Example::Store;
     Ok(Outcome {
         out,
-        remark: Some(format!("{title}: {}", example::PLACEHOLDERS)),
+        remark: has_signatures.then(|| format!("{title}: {}", example::PLACEHOLDERS)),
         accepted: true,
     })
 }

@@ -6,6 +6,9 @@ use nattveldi::{empty_store, Refusal, Situation};
 pub const NOTE: &str = "verdicts: the proved library; layout and explanation: this tool's own \
                         reading, for display only";
 
+/// The chip's octet on a good signature.
+pub const GOOD: u8 = 1;
+
 /// The library's number on a certificate.
 pub fn certificate(octets: &[u8]) -> u8 {
     number(&nattveldi::read(octets))

@@ -203,12 +203,15 @@ fn a_lacking_key() {
 #[test]
 fn a_damaged_file_of_hex_text() {
     let text = std::fs::read_to_string(example_path("ticket.hex")).unwrap();
-    let path = file(
-        "kind-3.hex",
-        text.replace("\n01      ", "\n03      ").as_bytes(),
+    let (kind, kind_3) = (
+        "\n01                              # kind 1",
+        "\n03 # kind 3",
     );
+    assert_eq!(text.matches(kind).count(), 1);
+    let path = file("kind-3.hex", text.replace(kind, kind_3).as_bytes());
     let answer = run(&["certificate", &path], b"");
     assert_eq!(answer.status, 1, "{}", answer.out);
+    has_line(&answer, &["fault ", "at octet 10: "]);
     let path = file(
         "no-digit.hex",
         text.replace("29679c00", "29679cxx").as_bytes(),

@@ -39,12 +39,18 @@ fn decided(store: &str, message: &str, more: &[&str]) -> Answer {
     run(&words, b"")
 }
 
-/// The last test that was made, and the number of the library.
 fn fails(answer: &Answer, number: u8, words: &[&str]) {
+    call_fails(answer, "decide ", number, words);
+}
+
+/// The number of the library, and the last test that was made.
+fn call_fails(answer: &Answer, word: &str, number: u8, words: &[&str]) {
     assert_eq!(answer.status, 1, "{}", answer.out);
-    has_line(answer, &["decide ", &format!("refused {number}, ")]);
-    let number_of_test = format!("FAIL  {number} ");
-    has_line(answer, &[&[&number_of_test[..]], words].concat());
+    has_line(answer, &[word, &format!("refused {number}, ")]);
+    has_line(
+        answer,
+        &[&[&format!("FAIL  {number} ")[..]], words].concat(),
+    );
     has_line(
         answer,
         &[&format!("arrives at {number}, as the library does")],
@@ -168,31 +174,18 @@ fn a_stored_copy() {
     fails(&decided(&copy, with, &[]), 8, &["slot 0 has its id"]);
 }
 
-fn entry_fails(answer: &Answer, word: &str, number: u8, words: &[&str]) {
-    assert_eq!(answer.status, 1, "{}", answer.out);
-    has_line(answer, &[word, &format!("refused {number}, ")]);
-    has_line(
-        answer,
-        &[&[&format!("FAIL  {number} ")[..]], words].concat(),
-    );
-    has_line(
-        answer,
-        &[&format!("arrives at {number}, as the library does")],
-    );
-}
-
 #[test]
 fn entries() {
     let store = prepared("entries");
     let (root, unit, ticket) = (path("root.hex"), path("unit.hex"), path("ticket.hex"));
     let answer = run(&["install", &store, &root], b"");
-    entry_fails(&answer, "install", 17, &["slot 0 has it"]);
+    call_fails(&answer, "install", 17, &["slot 0 has it"]);
     let answer = run(&["install", &store, &unit], b"");
-    entry_fails(&answer, "install", 10, &["it is a root: ticket"]);
+    call_fails(&answer, "install", 10, &["it is a root: ticket"]);
     let answer = run(&["admit", &store, &ticket], b"");
-    entry_fails(&answer, "admit", 7, &["a1b2c3d4e5f60718"]);
+    call_fails(&answer, "admit", 7, &["a1b2c3d4e5f60718"]);
     let answer = run(&["admit", &store, &unit, "--verdict", "0"], b"");
-    entry_fails(&answer, "admit", 15, &[": 0"]);
+    call_fails(&answer, "admit", 15, &[": 0"]);
     let answer = run(&["admit", &store, &unit], b"");
     assert_eq!(answer.status, 0, "{}", answer.out);
     has_line(
@@ -202,5 +195,5 @@ fn entries() {
     let cut = file("entries-cut", &example("unit.hex")[..50]);
     let answer = run(&["admit", &store, &cut], b"");
     // version, signer, id, kind, name: 19 octets; then attributes of 42
-    entry_fails(&answer, "admit", 4, &["octet 19:"]);
+    call_fails(&answer, "admit", 4, &["octet 19:"]);
 }

@@ -3,7 +3,7 @@
 
 mod common;
 
-use common::{example, example_path, file, has_line, run};
+use common::{example, example_path, file, has_line, has_whole_line, run};
 
 fn papers_store() -> Vec<u8> {
     example("page.hex")[..13_568].to_vec()
@@ -17,31 +17,27 @@ fn papers_store() -> Vec<u8> {
 fn the_slots() {
     let answer = run(&["store", "--at", "220"], &papers_store());
     assert_eq!((answer.status, &answer.err[..]), (0, ""));
-    has_line(&answer, &["verdict ", "a valid store"]);
-    has_line(&answer, &["slots ", "6 filled, 58 empty"]);
     let title = "slot 1, octets 212 to 423: authority 0202020202020202 \"B1\", held, stands";
-    has_line(&answer, &[title]);
-    has_line(&answer, &["212.0    64  id ", "0202020202020202"]);
-    has_line(&answer, &["220.0    64  issuer ", "0101010101010101"]);
-    has_line(&answer, &["228.0     2  state ", "1 (held)"]);
-    has_line(&answer, &["228.2     3  kind ", "2 (authority)"]);
-    has_line(
-        &answer,
-        &[
-            "228.5    32  start ",
-            "TAI second 100 = 2004-01-01 00:01:40 UTC",
-        ],
-    );
-    has_line(&answer, &["232.5    38  end ", "TAI second 900"]);
-    has_line(&answer, &["237.3     6  name length ", "2"]);
-    has_line(&answer, &["238.1   256  name ", "4231 \"B1\""]);
-    has_line(&answer, &["270.1     1  key parity ", "0 (point type 2)"]);
-    has_line(
-        &answer,
-        &["302.2     3  rectangle count ", "0 (everywhere)"],
-    );
-    has_line(&answer, &["366.5     5  permission count ", "1"]);
-    has_line(&answer, &["367.2    28  permission ", "ITS-AID 36"]);
+    for line in [
+        "verdict a valid store",
+        "slots 6 filled, 58 empty",
+        "standing asked for TAI second 220 = 2004-01-01 00:03:40 UTC",
+        title,
+        "212.0 64 id 0202020202020202",
+        "220.0 64 issuer 0101010101010101",
+        "228.0 2 state 1 (held)",
+        "228.2 3 kind 2 (authority)",
+        "228.5 32 start TAI second 100 = 2004-01-01 00:01:40 UTC",
+        "232.5 38 end TAI second 900 = 2004-01-01 00:15:00 UTC",
+        "237.3 6 name length 2",
+        "238.1 256 name 4231 \"B1\"",
+        "270.1 1 key parity 0 (point type 2)",
+        "302.2 3 rectangle count 0 (everywhere)",
+        "366.5 5 permission count 1",
+        "367.2 28 permission ITS-AID 36",
+    ] {
+        has_whole_line(&answer, line);
+    }
 }
 
 /// Ticket 04 has 250 to 400.
@@ -85,10 +81,12 @@ fn bad_stores() {
     for (at, octet, fault) in cases {
         let mut store = papers_store();
         store[at] = octet;
-        let answer = run(&["store"], &store);
+        let answer = run(&["store", "--at", "220"], &store);
         assert_eq!(answer.status, 1, "{}", answer.out);
         has_line(&answer, &["verdict ", "refused 2, bad store"]);
         has_line(&answer, &["fault ", fault]);
+        // The library says of no certificate of a bad store whether it stands.
+        assert!(!answer.out.contains("standing "), "{}", answer.out);
     }
     let mut store = papers_store();
     store[3 * 212..][..8].fill(3); // slot 3 gets the id of slot 2
@@ -102,11 +100,46 @@ fn bad_stores() {
     has_line(&answer, &["verdict ", "refused 1, bad call"]);
 }
 
+/// A row gives the number that its fault gives.
+#[test]
+fn lengths_above_the_room() {
+    let cases: [(usize, u8, &str, &str); 3] = [
+        (
+            237,
+            0b1001_0100,
+            "at octet 237, bit 3, of slot 1: a name of 40 octets",
+            "237.3 6 name length 40",
+        ),
+        (
+            302,
+            0b0011_1000,
+            "at octet 302, bit 2, of slot 1: 7 rectangles",
+            "302.2 3 rectangle count 7",
+        ),
+        (
+            366,
+            0b0000_0101,
+            "at octet 366, bit 5, of slot 1: 21 permissions",
+            "366.5 5 permission count 21",
+        ),
+    ];
+    for (at, octet, fault, row) in cases {
+        let mut store = papers_store();
+        store[at] = octet;
+        let answer = run(&["store"], &store);
+        assert_eq!(answer.status, 1, "{}", answer.out);
+        has_whole_line(&answer, &format!("fault {fault}"));
+        has_whole_line(&answer, row);
+    }
+}
+
 #[test]
 fn the_papers_page() {
     let path = example_path("page.hex");
     let answer = run(&["page", path.to_str().unwrap()], b"");
     assert_eq!((answer.status, &answer.err[..]), (0, ""));
+    let words = format!("input of page: {} (hex text), 13580 octets", path.display());
+    has_whole_line(&answer, &words);
     has_line(&answer, &["falling ", "2 certificates: slots 1, 2"]);
     let page = "withdraw 0202020202020202 at 220\n1 0202020202020202 authority 4231\n\
                 2 0303030303030303 ticket -\n2 certificates\n";

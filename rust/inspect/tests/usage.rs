@@ -42,7 +42,8 @@ fn examples_are_accepted() {
 #[test]
 fn the_example_store_accepts_the_example_messages() {
     let store = file("usage-store.hex", b"");
-    assert_eq!(run(&["example", "store", "--output", &store], b"").out, "");
+    let made = run(&["example", "store", "--output", &store], b"");
+    assert_eq!((made.status, &made.out[..], &made.err[..]), (0, "", ""));
     let answer = run(&["store", &store, "--at", "2026-06-02T12:00:00Z"], b"");
     has_line(&answer, &["slots ", "3 filled, 61 empty"]);
     for slot in ["slot 0, ", "slot 1, ", "slot 2, "] {
@@ -79,13 +80,31 @@ fn help_and_version() {
         }
     }
     let answer = run(&["--version"], b"");
-    let version = inspect::version::VERSION;
+    let version = nattveldi::VERSION;
     assert_eq!(answer.out, format!("nattveldi-inspect {version}\n"));
+}
+
+/// A store has no signatures, so nothing is said of placeholders.
+#[test]
+fn stores_that_are_written() {
+    let store = file("written-store.hex", b"");
+    let written = |words: &[&str]| {
+        let answer = run(&[words, &["--output", &store]].concat(), b"");
+        assert_eq!(answer.status, 0, "{}", answer.err);
+        std::fs::read_to_string(&store).expect("a store")
+    };
+    let example = written(&["example", "store"]);
+    assert!(example.starts_with("# an example store, "), "{example}");
+    let changed = written(&["withdraw", &store, "6897981906705d0f"]); // the authority
+    assert!(changed.starts_with("# a store, "), "{changed}");
+    for text in [example, changed] {
+        assert!(!text.contains("placeholder"), "{text}");
+    }
 }
 
 #[test]
 fn bad_usage() {
-    let cases: [(&[&str], &str); 16] = [
+    let cases: [(&[&str], &str); 19] = [
         (&["certificat"], "no command certificat"),
         (&["certificate", "--hax"], "no option --hax"),
         (
@@ -117,6 +136,12 @@ fn bad_usage() {
         ),
         (&["list", "a", "0102030405060708"], "list wants --at SECOND"),
         (&["example", "certificate"], "no example certificate"),
+        (&["install", "a", "b", "--raw"], "--raw wants --output"),
+        (&["admit", "a", "b", "--raw"], "--raw wants --output"),
+        (
+            &["withdraw", "a", "0102030405060708", "--raw"],
+            "--raw wants --output",
+        ),
     ];
     for (words, said) in cases {
         let answer = run(words, b"");

@@ -7,8 +7,8 @@
 //!     cargo run --release --offline --example decide -- 694700001000000 \
 //!         root.octets authority.octets message-with-certificate.octets message-by-id.octets
 //!
-//! The exit status is 0, 1 if something was refused, or 2 for bad usage or a
-//! file that cannot be read.
+//! The exit status is 0, 1 if the root, the authority or a message was refused,
+//! or 2 for bad usage or a file that cannot be read.
 
 use std::env;
 use std::error::Error;
@@ -35,7 +35,7 @@ fn main() -> ExitCode {
     }
 }
 
-/// Says whether anything was refused.
+/// Says whether the root, the authority or a message was refused.
 pub fn run(words: &[String], out: &mut dyn Write) -> Result<bool, Box<dyn Error>> {
     let [now, root, authority, messages @ ..] = words else {
         return Err(USAGE.into());

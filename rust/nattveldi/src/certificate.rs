@@ -183,8 +183,9 @@ impl Certificate {
     }
 }
 
-/// The 90 words. Where one of them has a value that the C header rules out,
-/// the archive is another one than these bindings were written for: a panic.
+/// The 90 words. A flag, count, kind, form, point type or assurance that is none
+/// comes from another archive than these bindings were written for: a panic. All
+/// other words are taken as they are.
 struct Fields<'a>(&'a [u8; FIELDS_LENGTH]);
 
 impl Fields<'_> {

@@ -92,6 +92,15 @@ mod c {
 // length, a buffer that is written is borrowed alone, so that it overlaps no
 // other argument, and the library keeps no pointer.
 
+/// Reads a certificate and writes its fields to the first 360 octets of
+/// `fields`; the octets behind them stay. The answer is 1 if `fields` has
+/// fewer. In a refusal `fields` stays as it was.
+///
+/// ```
+/// let mut fields = [7; 359];
+/// assert_eq!(nattveldi::raw::read(&[], &mut fields), 1);
+/// assert_eq!(fields, [7; 359]);
+/// ```
 pub fn read(certificate: &[u8], fields: &mut [u8]) -> u8 {
     unsafe {
         c::nattveldi_read(
@@ -103,6 +112,15 @@ pub fn read(certificate: &[u8], fields: &mut [u8]) -> u8 {
     }
 }
 
+/// Works out the id of a certificate and writes it to the first 8 octets of
+/// `id`; the octets behind them stay. The answer is 1 if `id` has fewer. In a
+/// refusal `id` stays as it was.
+///
+/// ```
+/// let mut id = [7; 9];
+/// assert_eq!(nattveldi::raw::id(&[], &mut id), 4);
+/// assert_eq!(id, [7; 9]);
+/// ```
 pub fn id(certificate: &[u8], id: &mut [u8]) -> u8 {
     unsafe {
         c::nattveldi_id(
@@ -114,6 +132,14 @@ pub fn id(certificate: &[u8], id: &mut [u8]) -> u8 {
     }
 }
 
+/// Installs a root in the lowest empty slot of `store`. The answer is 1 if
+/// `store` has not 13,568 octets. In a refusal `store` stays as it was.
+///
+/// ```
+/// let mut store = [7; 100];
+/// assert_eq!(nattveldi::raw::install(&mut store, &[], 1), 1);
+/// assert_eq!(store, [7; 100]);
+/// ```
 pub fn install(store: &mut [u8], certificate: &[u8], verdict: u8) -> u8 {
     unsafe {
         c::nattveldi_install(
@@ -126,6 +152,15 @@ pub fn install(store: &mut [u8], certificate: &[u8], verdict: u8) -> u8 {
     }
 }
 
+/// Admits a ticket or an authority to the lowest empty slot of `store`. The
+/// answer is 1 if `store` has not 13,568 octets. In a refusal `store` stays as
+/// it was.
+///
+/// ```
+/// let mut store = nattveldi::empty_store();
+/// assert_eq!(nattveldi::raw::admit(&mut store, &[], 1), 4);
+/// assert_eq!(store, nattveldi::empty_store());
+/// ```
 pub fn admit(store: &mut [u8], certificate: &[u8], verdict: u8) -> u8 {
     unsafe {
         c::nattveldi_admit(
@@ -138,6 +173,17 @@ pub fn admit(store: &mut [u8], certificate: &[u8], verdict: u8) -> u8 {
     }
 }
 
+/// Writes the slot numbers of the certificates that stand at a second and
+/// would not if the one under `id` were withdrawn, ascending, to the first
+/// octets of `list`; the octets behind them stay. The answer is how many they
+/// are, or minus the number of a refusal: -1 if `store` has not 13,568 octets,
+/// `id` not 8, or `list` fewer than 64. In a refusal `list` stays as it was.
+///
+/// ```
+/// let mut list = [7; 64];
+/// assert_eq!(nattveldi::raw::list(&nattveldi::empty_store(), &[1; 8], 220, &mut list), -7);
+/// assert_eq!(list, [7; 64]);
+/// ```
 pub fn list(store: &[u8], id: &[u8], second: u32, list: &mut [u8]) -> i32 {
     unsafe {
         c::nattveldi_list(
@@ -152,14 +198,49 @@ pub fn list(store: &[u8], id: &[u8], second: u32, list: &mut [u8]) -> i32 {
     }
 }
 
+/// Withdraws the certificate under `id`. The answer is 1 if `store` has not
+/// 13,568 octets or `id` not 8. In a refusal `store` stays as it was.
+///
+/// ```
+/// let mut store = nattveldi::empty_store();
+/// assert_eq!(nattveldi::raw::withdraw(&mut store, &[1; 9]), 1);
+/// assert_eq!(nattveldi::raw::withdraw(&mut store, &[1; 8]), 7);
+/// assert_eq!(store, nattveldi::empty_store());
+/// ```
 pub fn withdraw(store: &mut [u8], id: &[u8]) -> u8 {
     unsafe { c::nattveldi_withdraw(store.as_mut_ptr(), store.len(), id.as_ptr(), id.len()) }
 }
 
+/// Writes the text that the program `page` prints for an input to the first
+/// octets of `text`; the octets behind it stay. The answer is the text's
+/// length, or 0 if `text` has fewer than 6,144 octets, which then stay.
+///
+/// ```
+/// use nattveldi::raw::{page, PAGE_LENGTH};
+///
+/// let mut text = [7; PAGE_LENGTH];
+/// assert_eq!(page(&[], &mut text), 10);
+/// assert_eq!(text[..11], *b"refused 1\n\x07");
+/// assert_eq!(page(&[], &mut text[1..]), 0);
+/// ```
 pub fn page(input: &[u8], text: &mut [u8]) -> u32 {
     unsafe { c::nattveldi_page(input.as_ptr(), input.len(), text.as_mut_ptr(), text.len()) }
 }
 
+/// Works out what the chip is to be asked about a message, and writes it to the
+/// first 104 octets of `questions`; the octets behind them stay. The answer is 1
+/// if `questions` has fewer, else as [`decide`]'s with two verdicts of 1. In a
+/// refusal `questions` stays as it was.
+///
+/// ```
+/// use nattveldi::{empty_store, raw, Situation};
+///
+/// let here = Situation { now: 250_000_000, ..Situation::default() };
+/// let mut questions = [7; 104];
+/// assert_eq!(raw::prepare(&empty_store(), &[3], &here, &mut questions), 6);
+/// assert_eq!(raw::prepare(&empty_store(), &[3], &here, &mut questions[1..]), 1);
+/// assert_eq!(questions, [7; 104]);
+/// ```
 pub fn prepare(store: &[u8], message: &[u8], situation: &Situation, questions: &mut [u8]) -> u8 {
     unsafe {
         c::nattveldi_prepare(
@@ -177,6 +258,19 @@ pub fn prepare(store: &[u8], message: &[u8], situation: &Situation, questions: &
     }
 }
 
+/// Decides a message, and writes what it says to the first 28 octets of
+/// `decision`; the octets behind them stay. The answer is 1 if `decision` has
+/// fewer. In a refusal `decision` stays as it was.
+///
+/// ```
+/// use nattveldi::{empty_store, raw, Situation};
+///
+/// let here = Situation { now: 250_000_000, ..Situation::default() };
+/// let mut decision = [7; 28];
+/// assert_eq!(raw::decide(&empty_store(), &[3], &here, 1, 1, &mut decision), 6);
+/// assert_eq!(raw::decide(&empty_store(), &[3], &here, 1, 1, &mut decision[1..]), 1);
+/// assert_eq!(decision, [7; 28]);
+/// ```
 pub fn decide(
     store: &[u8],
     message: &[u8],

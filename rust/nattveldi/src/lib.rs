@@ -28,7 +28,8 @@
 //! assert_eq!(fields.key.x.of(&certificate), [7; 32]);
 //! assert_eq!((fields.period.start, fields.period.end), (0, 1_000));
 //! assert_eq!(fields.signed.length, certificate.len() - 66);
-//! assert_eq!(id(&certificate)?.len(), 8);
+//! // The end of `sha256sum` over these octets, which have 0 for the signature's point type.
+//! assert_eq!(id(&certificate)?, 0x3f1e4feaf33a690d_u64.to_be_bytes());
 //!
 //! let refusal = read(&certificate[..50]).unwrap_err();
 //! assert_eq!(refusal, Refusal::Cut);

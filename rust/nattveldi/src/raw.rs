@@ -1,10 +1,9 @@
 //! The library's functions as the C header has them: a number for an answer
 //! and a buffer of the caller; but now, position and age come as a
-//! [`Situation`]. For tests, and for callers that want the words or have a
-//! buffer already.
+//! [`Situation`](crate::Situation). For tests, and for callers that want the
+//! words or have a buffer already.
 
-use crate::ffi;
-use crate::message::Situation;
+pub use crate::ffi::{admit, decide, id, install, list, page, prepare, read, withdraw};
 
 /// How many octets [`read`] writes: 90 words of 4 octets, big-endian.
 pub const FIELDS_LENGTH: usize = 360;
@@ -86,150 +85,6 @@ pub mod octet_at {
     pub const DECISION_SIGNER: usize = 8;
     pub const DECISION_PERMISSION: usize = 16;
     pub const DECISION_GENERATION_TIME: usize = 20;
-}
-
-/// Reads a certificate and writes its fields to the first 360 octets of
-/// `fields`; the octets behind them stay. The answer is 1 if `fields` has
-/// fewer. In a refusal `fields` stays as it was.
-///
-/// ```
-/// let mut fields = [7; 359];
-/// assert_eq!(nattveldi::raw::read(&[], &mut fields), 1);
-/// assert_eq!(fields, [7; 359]);
-/// ```
-pub fn read(certificate: &[u8], fields: &mut [u8]) -> u8 {
-    ffi::read(certificate, fields)
-}
-
-/// Works out the id of a certificate and writes it to the first 8 octets of
-/// `id`; the octets behind them stay. The answer is 1 if `id` has fewer. In a
-/// refusal `id` stays as it was.
-///
-/// ```
-/// let mut id = [7; 9];
-/// assert_eq!(nattveldi::raw::id(&[], &mut id), 4);
-/// assert_eq!(id, [7; 9]);
-/// ```
-pub fn id(certificate: &[u8], id: &mut [u8]) -> u8 {
-    ffi::id(certificate, id)
-}
-
-/// Installs a root in the lowest empty slot of `store`. The answer is 1 if
-/// `store` has not 13,568 octets. In a refusal `store` stays as it was.
-///
-/// ```
-/// let mut store = [7; 100];
-/// assert_eq!(nattveldi::raw::install(&mut store, &[], 1), 1);
-/// assert_eq!(store, [7; 100]);
-/// ```
-pub fn install(store: &mut [u8], certificate: &[u8], verdict: u8) -> u8 {
-    ffi::install(store, certificate, verdict)
-}
-
-/// Admits a ticket or an authority to the lowest empty slot of `store`. The
-/// answer is 1 if `store` has not 13,568 octets. In a refusal `store` stays as
-/// it was.
-///
-/// ```
-/// let mut store = nattveldi::empty_store();
-/// assert_eq!(nattveldi::raw::admit(&mut store, &[], 1), 4);
-/// assert_eq!(store, nattveldi::empty_store());
-/// ```
-pub fn admit(store: &mut [u8], certificate: &[u8], verdict: u8) -> u8 {
-    ffi::admit(store, certificate, verdict)
-}
-
-/// Writes the slot numbers of the certificates that stand at a second and
-/// would not if the one under `id` were withdrawn, ascending, to the first
-/// octets of `list`; the octets behind them stay. The answer is how many they
-/// are, or minus the number of a refusal: -1 if `store` has not 13,568 octets,
-/// `id` not 8, or `list` fewer than 64. In a refusal `list` stays as it was.
-///
-/// ```
-/// let mut list = [7; 64];
-/// assert_eq!(nattveldi::raw::list(&nattveldi::empty_store(), &[1; 8], 220, &mut list), -7);
-/// assert_eq!(list, [7; 64]);
-/// ```
-pub fn list(store: &[u8], id: &[u8], second: u32, list: &mut [u8]) -> i32 {
-    ffi::list(store, id, second, list)
-}
-
-/// Withdraws the certificate under `id`. The answer is 1 if `store` has not
-/// 13,568 octets or `id` not 8. In a refusal `store` stays as it was.
-///
-/// ```
-/// let mut store = nattveldi::empty_store();
-/// assert_eq!(nattveldi::raw::withdraw(&mut store, &[1; 9]), 1);
-/// assert_eq!(nattveldi::raw::withdraw(&mut store, &[1; 8]), 7);
-/// assert_eq!(store, nattveldi::empty_store());
-/// ```
-pub fn withdraw(store: &mut [u8], id: &[u8]) -> u8 {
-    ffi::withdraw(store, id)
-}
-
-/// Writes the text that the program `page` prints for an input to the first
-/// octets of `text`; the octets behind it stay. The answer is the text's
-/// length, or 0 if `text` has fewer than 6,144 octets, which then stay.
-///
-/// ```
-/// use nattveldi::raw::{page, PAGE_LENGTH};
-///
-/// let mut text = [7; PAGE_LENGTH];
-/// assert_eq!(page(&[], &mut text), 10);
-/// assert_eq!(text[..11], *b"refused 1\n\x07");
-/// assert_eq!(page(&[], &mut text[1..]), 0);
-/// ```
-pub fn page(input: &[u8], text: &mut [u8]) -> u32 {
-    ffi::page(input, text)
-}
-
-/// Works out what the chip is to be asked about a message, and writes it to the
-/// first 104 octets of `questions`; the octets behind them stay. The answer is 1
-/// if `questions` has fewer, else as [`decide`]'s with two verdicts of 1. In a
-/// refusal `questions` stays as it was.
-///
-/// ```
-/// use nattveldi::{empty_store, raw, Situation};
-///
-/// let here = Situation { now: 250_000_000, ..Situation::default() };
-/// let mut questions = [7; 104];
-/// assert_eq!(raw::prepare(&empty_store(), &[3], &here, &mut questions), 6);
-/// assert_eq!(raw::prepare(&empty_store(), &[3], &here, &mut questions[1..]), 1);
-/// assert_eq!(questions, [7; 104]);
-/// ```
-pub fn prepare(store: &[u8], message: &[u8], situation: &Situation, questions: &mut [u8]) -> u8 {
-    ffi::prepare(store, message, situation, questions)
-}
-
-/// Decides a message, and writes what it says to the first 28 octets of
-/// `decision`; the octets behind them stay. The answer is 1 if `decision` has
-/// fewer. In a refusal `decision` stays as it was.
-///
-/// ```
-/// use nattveldi::{empty_store, raw, Situation};
-///
-/// let here = Situation { now: 250_000_000, ..Situation::default() };
-/// let mut decision = [7; 28];
-/// assert_eq!(raw::decide(&empty_store(), &[3], &here, 1, 1, &mut decision), 6);
-/// assert_eq!(raw::decide(&empty_store(), &[3], &here, 1, 1, &mut decision[1..]), 1);
-/// assert_eq!(decision, [7; 28]);
-/// ```
-pub fn decide(
-    store: &[u8],
-    message: &[u8],
-    situation: &Situation,
-    verdict: u8,
-    certificate_verdict: u8,
-    decision: &mut [u8],
-) -> u8 {
-    ffi::decide(
-        store,
-        message,
-        situation,
-        verdict,
-        certificate_verdict,
-        decision,
-    )
 }
 
 /// The word at an index of what [`read`] wrote.

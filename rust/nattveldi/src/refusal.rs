@@ -31,8 +31,8 @@ pub enum Refusal {
     Cut = 4,
     /// Against the layout's rules.
     Malformed = 5,
-    /// A version, type or algorithm that is not read here, or more
-    /// permissions or rectangles than are read.
+    /// A version, type or algorithm that is not read here, a number or length
+    /// over 268,435,455, a seventeenth permission or a fifth rectangle.
     Unsupported = 6,
     /// An issuer, a message's signer, or the id that is asked for, is not in
     /// the store.
@@ -136,7 +136,7 @@ impl Refusal {
             Refusal::Cut => "a field or vector passes the end of what holds it",
             Refusal::Malformed => "it breaks a rule of the layout",
             Refusal::Unsupported => {
-                "it has a version, type or algorithm that is not read here, or more than 16 permissions or 4 rectangles"
+                "a version, type or algorithm that is not read here, a number or length over 268,435,455, a seventeenth permission or a fifth rectangle"
             }
             Refusal::Unknown => {
                 "an issuer, the signer, or the id that is asked for, is not in the store"

@@ -53,6 +53,11 @@ fn judges_the_examples() {
     let known = [names[0], names[1], names[3], names[4]];
     let (any_refused, text) = run("known", NOW, &known).expect("files");
     assert!(!any_refused, "{text}");
+    // That its certificate is held already is no refusal of a message.
+    let twice = [names[0], names[1], names[3], names[3]];
+    let (any_refused, text) = run("twice", NOW, &twice).expect("files");
+    let end = "  admit its certificate: refused 17, already held\n";
+    assert!(text.ends_with(end) && !any_refused, "{text}");
 }
 
 /// A message of 694,700,000.25 seconds is 2 seconds old at ..2.25, and no
@@ -76,6 +81,10 @@ fn says_what_is_wrong() {
         fault.to_string()
     };
     assert!(said(&[NOW, "root.octets"]).starts_with("usage: "));
-    assert_eq!(said(&["-1", "a", "b"]), "no number of microseconds: -1");
+    // The last is above the largest number of 64 bits.
+    for word in ["-1", "", "1x", "99999999999999999999999"] {
+        let fault = format!("no number of microseconds: {word}");
+        assert_eq!(said(&[word, "a", "b"]), fault);
+    }
     assert!(said(&[NOW, "/no/such", "b"]).starts_with("cannot read /no/such: "));
 }

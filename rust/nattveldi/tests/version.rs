@@ -1,9 +1,7 @@
-//! The version: one in the bindings, the C header, the changelog and the
-//! programs.
+//! The version: one in the bindings, the C header and the changelog.
 
 use std::fs;
 use std::path::Path;
-use std::process::Command;
 
 fn text(name: &str) -> String {
     let path = Path::new(env!("CARGO_MANIFEST_DIR"))
@@ -42,15 +40,4 @@ fn is_the_newest_of_the_changelog() {
     let changelog = text("CHANGELOG.md");
     let released = changelog.replace("\n## [Unreleased]", "");
     assert_eq!(between(&released, "\n## [", "]"), nattveldi::VERSION);
-}
-
-#[test]
-fn is_said_by_the_program() {
-    let output = Command::new(env!("CARGO_BIN_EXE_read-certificate"))
-        .arg("--version")
-        .output()
-        .expect("read-certificate runs");
-    let said = String::from_utf8(output.stdout).expect("text");
-    assert_eq!(said, format!("read-certificate {}\n", nattveldi::VERSION));
-    assert_eq!(output.status.code(), Some(0));
 }

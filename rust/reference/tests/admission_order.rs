@@ -3,6 +3,7 @@
 
 mod common;
 
+use common::sets::{first, sets};
 use common::stores::*;
 use common::*;
 use reference::{admit, id, install};
@@ -122,10 +123,8 @@ fn every_set(
     order: &[(Fault, u8)],
     operation: fn(&mut [u8], &[u8], u8) -> u8,
 ) -> usize {
-    let sets = 1 << order.len();
-    for set in 0..sets {
-        let chosen = (0..order.len()).filter(|number| set >> number & 1 == 1);
-        let (faults, answers): (Vec<Fault>, Vec<u8>) = chosen.map(|number| order[number]).unzip();
+    let mut tried = 0;
+    for (faults, answers) in sets(order) {
         let before = case.store(&faults);
         let verdict = if faults.contains(&Fault::Verdict) {
             0
@@ -134,15 +133,16 @@ fn every_set(
         };
         let mut after = before.clone();
         let number = operation(&mut after, &case.certificate(&faults), verdict);
-        assert_eq!(number, answers.first().copied().unwrap_or(0), "{answers:?}");
+        assert_eq!(number, first(&answers), "{answers:?}");
         if number == 0 {
             // Slot 3 alone is written.
             assert_ne!(after[3 * 212..4 * 212], [0; 212]);
             after[3 * 212..4 * 212].fill(0);
         }
         assert!(after == before, "{answers:?}");
+        tried += 1;
     }
-    sets
+    tried
 }
 
 #[test]

@@ -4,6 +4,7 @@
 mod common;
 
 use common::messages::*;
+use common::sets::{first, sets};
 use common::stores::*;
 use common::{authority, its_aid_ssp_list, ticket, verification_key, ISSUER};
 use reference::{decide, id, prepare, Call};
@@ -176,41 +177,34 @@ fn assert_answers(store: &[u8], message: &[u8], faults: &[Fault], answers: &[u8]
     let verdict = choose(Fault::Verdict, 0, 1) as u8;
     let certificate_verdict = choose(Fault::CertificateVerdict, 2, 1) as u8;
     let decided = decide(&call, verdict, certificate_verdict);
-    let expected = answers.first().copied().unwrap_or(0);
+    let expected = first(answers);
     assert_eq!(decided.err().unwrap_or(0), expected, "{answers:?}");
     let prepared = prepare(&call).err().unwrap_or(0);
     let expected = if expected == 15 { 0 } else { expected };
     assert_eq!(prepared, expected, "{answers:?}");
 }
 
-/// Calls `try_set` with every set of the faults and their answers; gives how many sets there are.
-fn every_set(order: &[(Fault, u8)], try_set: impl Fn(&[Fault], &[u8])) -> usize {
-    let sets = 1 << order.len();
-    for set in 0..sets {
-        let chosen = (0..order.len()).filter(|number| set >> number & 1 == 1);
-        let (faults, answers): (Vec<Fault>, Vec<u8>) = chosen.map(|number| order[number]).unzip();
-        try_set(&faults, &answers);
-    }
-    sets
-}
-
 #[test]
 fn by_id_faults() {
-    let sets = every_set(&BY_ID, |faults, answers| {
-        let store = store(stored_signer(faults), faults);
-        let message = message_octets(signer_id(SIGNER), faults);
-        assert_answers(&store, &message, faults, answers);
-    });
-    assert_eq!(sets, 32_768);
+    let mut tried = 0;
+    for (faults, answers) in sets(&BY_ID) {
+        let store = store(stored_signer(&faults), &faults);
+        let message = message_octets(signer_id(SIGNER), &faults);
+        assert_answers(&store, &message, &faults, &answers);
+        tried += 1;
+    }
+    assert_eq!(tried, 32_768);
 }
 
 #[test]
 fn embedded_faults() {
-    let sets = every_set(&EMBEDDED, |faults, answers| {
-        let certificate = certificate(faults);
-        let store = store(copy(&certificate, faults), faults);
-        let message = message_octets(signer_certificate(&certificate), faults);
-        assert_answers(&store, &message, faults, answers);
-    });
-    assert_eq!(sets, 32_768);
+    let mut tried = 0;
+    for (faults, answers) in sets(&EMBEDDED) {
+        let certificate = certificate(&faults);
+        let store = store(copy(&certificate, &faults), &faults);
+        let message = message_octets(signer_certificate(&certificate), &faults);
+        assert_answers(&store, &message, &faults, &answers);
+        tried += 1;
+    }
+    assert_eq!(tried, 32_768);
 }

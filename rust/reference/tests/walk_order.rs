@@ -4,6 +4,7 @@
 mod common;
 
 use common::chains::*;
+use common::sets::{first, sets};
 use common::stores::*;
 use reference::{decode, walk};
 
@@ -75,19 +76,11 @@ fn issuer(faults: &[Fault]) -> Fields {
     issuer
 }
 
-/// Gives each set of the faults with the answer that comes first, 0 for none.
-fn sets(order: &[(Fault, u8)]) -> impl Iterator<Item = (Vec<Fault>, u8)> + '_ {
-    (0..1 << order.len()).map(|set: u32| {
-        let chosen = (0..order.len()).filter(|number| set >> number & 1 == 1);
-        let (faults, answers): (Vec<Fault>, Vec<u8>) = chosen.map(|number| order[number]).unzip();
-        (faults, answers.first().copied().unwrap_or(0))
-    })
-}
-
 #[test]
 fn at_the_signer() {
     let mut answers = [0; 19];
-    for (faults, expected) in sets(&SIGNER) {
+    for (faults, numbers) in sets(&SIGNER) {
+        let expected = first(&numbers);
         let mut above = root(1);
         above.permission_count = 2;
         above.permissions[1] = 37;
@@ -108,7 +101,8 @@ fn at_the_signer() {
 #[test]
 fn at_the_seventh_and_the_eighth() {
     let mut answers = [0; 19];
-    for (faults, expected) in sets(&EIGHTH) {
+    for (faults, numbers) in sets(&EIGHTH) {
+        let expected = first(&numbers);
         let below = if faults.contains(&Fault::Eighth) {
             7
         } else {
@@ -141,7 +135,8 @@ fn at_the_seventh_and_the_eighth() {
 #[test]
 fn at_a_root() {
     let order = &SIGNER[..3];
-    for (faults, expected) in sets(order) {
+    for (faults, numbers) in sets(order) {
+        let expected = first(&numbers);
         let mut fields = subject(&faults);
         (fields.kind, fields.issuer) = (4, 0);
         let second = 199 + u64::from(!faults.contains(&Fault::Second));

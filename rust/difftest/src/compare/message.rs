@@ -1,6 +1,6 @@
 //! The sides held against each other on a message: questions and decision.
 
-use nattveldi::raw::{octet_at, QUESTIONS_LENGTH};
+use nattveldi::raw::{octet_at, DECISION_LENGTH, QUESTIONS_LENGTH};
 
 use super::{first_difference, numbers, same};
 use crate::judgements::{Judged, Judgement, Verdicts};
@@ -78,7 +78,7 @@ fn decision_field(at: usize) -> &'static str {
         0..octet_at::DECISION_SIGNER => "payload",
         octet_at::DECISION_SIGNER..octet_at::DECISION_PERMISSION => "signer",
         octet_at::DECISION_PERMISSION..octet_at::DECISION_GENERATION_TIME => "permission",
-        octet_at::DECISION_GENERATION_TIME..28 => "generation time",
+        octet_at::DECISION_GENERATION_TIME..DECISION_LENGTH => "generation time",
         _ => "behind the decision",
     }
 }

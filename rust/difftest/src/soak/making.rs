@@ -102,7 +102,10 @@ fn change(living: &Living, random: &mut Random) -> Made {
     match random.below(32) {
         0 => change.operation = random.pick(&[Operation::Install, Operation::Admit]),
         1 => change.verdict = random.octet(),
-        2..=5 => troubles::damaged(&plan, &mut change, random),
+        2..=5 => {
+            keeps = Keeps::Nothing; // what goes in may be another than the plan's
+            troubles::damaged(&plan, &mut change, random);
+        }
         6 => {
             keeps = Keeps::Nothing;
             spoil::damage(&mut change.store, random);

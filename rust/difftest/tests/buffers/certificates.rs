@@ -1,5 +1,6 @@
 //! Buffers for what a certificate says, and the store that it goes into.
 
+use difftest::buffers::{FILLS, LONGER};
 use difftest::draft::Draft;
 use difftest::entry::{self, Entry, Slots, HELD};
 use difftest::plan::{Plan, ROOT};
@@ -7,8 +8,6 @@ use difftest::random::Random;
 use difftest::sides::{self, Side};
 use difftest::slot::{SLOTS, SLOT_LENGTH, STORE_LENGTH};
 use nattveldi::raw;
-
-use crate::{FILLS, LONGER};
 
 const BAD_CALL: u8 = 1;
 

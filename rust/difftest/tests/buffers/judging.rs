@@ -2,12 +2,12 @@
 
 use std::collections::BTreeSet;
 
+use difftest::buffers::{FILLS, LONGER};
 use difftest::judgements::{Judgement, Verdicts};
 use difftest::sides::Side;
 use nattveldi::raw;
 
 use crate::messages::{accepted, badly_signed, refused};
-use crate::{FILLS, LONGER};
 
 const BAD_CALL: u8 = 1;
 const BAD_SIGNATURE: u8 = 15;

@@ -2,7 +2,7 @@
 
 use std::path::Path;
 
-use crate::programs::{build, example, file, run, run_with, text};
+use crate::programs::{build, check_fault, example, file, run, run_with, text};
 
 /// The fields that are expected are those that the comments of `ticket.hex`
 /// give; the id is from `sha256sum` over its octets with octet 100 as 0.
@@ -61,4 +61,11 @@ fn example_admits_a_ticket() {
     assert_eq!(status, Some(0), "{text}");
     let (status, text) = run_with(&program, &[&unit, &root]);
     assert_eq!((status, &text[..]), (Some(1), "install 10\nadmit 10\n"));
+    check_fault(&program, &[], "admit: usage: admit ROOT CERTIFICATE..");
+    check_fault(
+        &program,
+        &[&root, "/no/such"],
+        "admit: cannot open /no/such",
+    );
+    check_fault(&program, &["/"], "admit: cannot read /");
 }

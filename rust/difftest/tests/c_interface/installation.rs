@@ -114,22 +114,40 @@ fn packages_and_removes() {
     assert_eq!(said.matches("not there: ").count(), 3, "{said}");
 }
 
-#[test]
-fn writes_nothing_without_an_archive() {
-    let place = place("missing");
-    let prefix = place.join("prefix");
-    let output = install(&place, &["--prefix", &prefix.to_string_lossy()]);
+/// Without an archive it says which one it looked for, and what helps.
+fn check_missing(output: Output, archive: &Path, advice: &str) {
     assert_eq!(
         (output.status.code(), &output.stdout[..]),
         (Some(1), &b""[..])
     );
     let error = String::from_utf8(output.stderr).expect("text");
-    let archive = place.join("libnattveldi_c.a");
-    let start = format!(
-        "install: there is no archive {}\nRun `rt staticlib nattveldi_c` in ",
-        archive.display()
-    );
+    let archive = archive.display();
+    let start = format!("install: there is no archive {archive}\n{advice}");
     assert!(error.starts_with(&start), "{error}");
+}
+
+#[test]
+fn writes_nothing_without_an_archive() {
+    let place = place("missing");
+    let prefix = place.join("prefix");
+    let words = ["--prefix", &prefix.to_string_lossy()];
+    let output = install(&place, &words);
+    let advice = "NATTVELDI_LIB_DIR names that folder: unset it, or copy the archive there.\n";
+    check_missing(output, &place.join("libnattveldi_c.a"), advice);
+
+    // A copy of the repository that nothing was built in.
+    fs::create_dir(place.join("include")).expect("a folder");
+    for name in ["install", "include/nattveldi.h"] {
+        fs::copy(root().join(name), place.join(name)).expect("a copy");
+    }
+    let output = Command::new("bash") // a file that was just written may still be open elsewhere
+        .arg(place.join("install"))
+        .args(words)
+        .env_remove("NATTVELDI_LIB_DIR")
+        .output()
+        .expect("./install runs");
+    let archive = place.join("target/staticlib/libnattveldi_c.a");
+    check_missing(output, &archive, "Run `rt staticlib nattveldi_c` in ");
     assert!(!prefix.exists());
 }
 

@@ -1,9 +1,8 @@
 //! The example that judges messages.
 
 use std::path::Path;
-use std::process::Command;
 
-use crate::programs::{build, file, run_with, text};
+use crate::programs::{build, check_fault, file, run_with, text};
 
 /// Between the messages' times and the expiration of the second.
 const NOW: &str = "694700001000000";
@@ -39,23 +38,26 @@ fn example_judges_messages() {
     let said = "install: accepted\nadmit: accepted\nmessage 1, 274 octets\n  prepare: refused 14, \
                 out of date\n";
     assert_eq!(old, (Some(1), said.to_string()));
+    // That its certificate is held already is no refusal of a message.
+    let (status, text) = run_with(&program, &[NOW, &anchor, &authority, &bringing, &bringing]);
+    let end = "  admit its certificate: refused 17, already held\n";
+    assert!(text.ends_with(end), "{text}");
+    assert_eq!(status, Some(0));
+    says_what_is_wrong(&program, &anchor, &authority);
+}
 
-    for (words, said) in [
-        (
-            &[NOW, &anchor][..],
-            "usage: decide NOW ROOT AUTHORITY MESSAGE..",
-        ),
-        (
-            &["-1", &anchor, &authority],
-            "no number of microseconds: -1",
-        ),
-        (&[NOW, "/no/such", &authority], "cannot open /no/such"),
-        (&[NOW, "/", &authority], "cannot read /"),
-    ] {
-        let output = Command::new(&program).args(words).output();
-        let output = output.expect("the example runs");
-        let error = String::from_utf8(output.stderr).expect("text");
-        assert_eq!(error, format!("decide: {said}\n"));
-        assert_eq!(output.status.code(), Some(2));
+fn says_what_is_wrong(program: &Path, anchor: &str, authority: &str) {
+    let usage = "decide: usage: decide NOW ROOT AUTHORITY MESSAGE..";
+    check_fault(program, &[NOW, anchor], usage);
+    // The last is above the largest number of 64 bits.
+    for word in ["-1", "", "1x", "99999999999999999999999"] {
+        let said = format!("decide: no number of microseconds: {word}");
+        check_fault(program, &[word, anchor, authority], &said);
     }
+    check_fault(
+        program,
+        &[NOW, "/no/such", authority],
+        "decide: cannot open /no/such",
+    );
+    check_fault(program, &[NOW, "/", authority], "decide: cannot read /");
 }

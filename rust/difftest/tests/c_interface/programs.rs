@@ -92,6 +92,15 @@ pub fn file(test: &str, name: &str) -> String {
     path.to_string_lossy().into()
 }
 
+/// Fails unless an example says this on standard error and ends with status 2.
+pub fn check_fault(program: &Path, words: &[&str], said: &str) {
+    let output = Command::new(program).args(words).output();
+    let output = output.expect("the example runs");
+    let error = String::from_utf8(output.stderr).expect("text");
+    assert_eq!(error, format!("{said}\n"));
+    assert_eq!(output.status.code(), Some(2));
+}
+
 /// The status and the output of an example with words behind its name.
 pub fn run_with(program: &Path, words: &[&str]) -> (Option<i32>, String) {
     let output = Command::new(program).args(words).output();

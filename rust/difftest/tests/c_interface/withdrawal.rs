@@ -1,6 +1,8 @@
 //! The example that withdraws.
 
-use crate::programs::{build, file, run_with};
+use std::path::Path;
+
+use crate::programs::{build, check_fault, file, run_with};
 
 /// At 694,700,000 root and unit stand; at 695,260,800 the unit's period ends.
 const BOTH_FALL: &str = "\
@@ -60,4 +62,21 @@ fn example_withdraws_a_root() {
         let (status, text) = run_with(&program, &words);
         assert_eq!((status, &text[..]), expected, "{second}");
     }
+    says_what_is_wrong(&program, &root);
+}
+
+fn says_what_is_wrong(program: &Path, root: &str) {
+    let usage = "withdraw: usage: withdraw SECOND ROOT CERTIFICATE..";
+    check_fault(program, &["1"], usage);
+    // The last two are above the largest numbers of 32 and of 64 bits.
+    for word in ["", "-1", "1x", "4294967296", "99999999999999999999999"] {
+        let said = format!("withdraw: no second since the start of 2004: {word}");
+        check_fault(program, &[word, root], &said);
+    }
+    check_fault(
+        program,
+        &["1", "/no/such"],
+        "withdraw: cannot open /no/such",
+    );
+    check_fault(program, &["1", "/"], "withdraw: cannot read /");
 }

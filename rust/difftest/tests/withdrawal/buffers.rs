@@ -1,15 +1,11 @@
 //! What the library does with the caller's buffers.
 
+use difftest::buffers::{FILLS, LONGER};
 use difftest::entry::{self, WITHDRAWN};
 use difftest::slot::{SLOTS, SLOT_LENGTH, STORE_LENGTH};
 use nattveldi::raw::{self, PAGE_LENGTH};
 
 use crate::stores::of_the_paper;
-
-/// Two fills, so that an octet which is not written shows in one of them.
-const FILLS: [u8; 2] = [0x5a, 0xa5];
-/// By how much a buffer is longer than it need be.
-const LONGER: [usize; 4] = [0, 1, 9, 1_000];
 
 fn store() -> Vec<u8> {
     entry::store(&of_the_paper())

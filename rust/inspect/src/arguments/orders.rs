@@ -3,11 +3,11 @@
 use std::ffi::{OsStr, OsString};
 
 use super::words::Words;
-use super::{Asked, Entry, Example, Order};
+use super::{Asked, Entry, Example, Order, Target};
 use crate::text::{degrees, hex, time};
+use crate::verdict::GOOD;
 
 const INPUT: [&str; 2] = ["--hex", "--octets"];
-const GOOD: u8 = 1;
 
 pub fn parse(words: impl Iterator<Item = OsString>) -> Result<Order, String> {
     let words: Vec<OsString> = words.collect();
@@ -92,7 +92,7 @@ fn enter(words: &Words, rest: &[&OsStr], wants_root: bool) -> Result<Order, Stri
         store: words.source(store),
         certificate: words.source(certificate),
         verdict: verdict(words, "--verdict")?,
-        target: words.target(),
+        target: store_target(words)?,
     }))
 }
 
@@ -112,7 +112,7 @@ fn withdraw(words: &Words, rest: &[&OsStr]) -> Result<Order, String> {
     Ok(Order::Withdraw {
         store: words.source(store),
         id: id(digits)?,
-        target: words.target(),
+        target: store_target(words)?,
     })
 }
 
@@ -129,6 +129,15 @@ fn example(words: &Words, rest: &[&OsStr]) -> Result<Order, String> {
         _ => return Err(format!("no example {}", names.join(" "))),
     };
     Ok(Order::Example(example, words.target()))
+}
+
+/// Where a changed store goes. It is written to no other place than a file.
+fn store_target(words: &Words) -> Result<Target, String> {
+    let target = words.target();
+    if target.raw && target.file.is_none() {
+        return Err("--raw wants --output".to_string());
+    }
+    Ok(target)
 }
 
 fn at_most_one<'a>(command: &str, rest: &[&'a OsStr]) -> Result<&'a OsStr, String> {

@@ -1,10 +1,11 @@
 //! Octets as hex text with comments, which the program reads again.
 
+use nattveldi::VERSION;
+
 use crate::reading::{self, Field};
 use crate::store::layout::{SLOTS, SLOT_LENGTH};
 use crate::store::Slots;
 use crate::text::hex;
-use crate::version::VERSION;
 
 pub const PLACEHOLDERS: &str =
     "signatures are placeholders: nobody computed them; the chip's verdict is an input";
@@ -19,9 +20,10 @@ pub fn message(title: &str, octets: &[u8]) -> String {
     fields(title, octets, &reading::message(octets).fields)
 }
 
-/// A field a line.
+/// A field a line. What has such fields holds a signature.
 fn fields(title: &str, octets: &[u8], fields: &[Field]) -> String {
     let mut text = head(title, octets.len());
+    text.push_str(&format!("# {PLACEHOLDERS}\n"));
     for field in fields {
         let digits = hex::text(&octets[field.offset..][..field.length]);
         let code = format!("{:indent$}{digits}", "", indent = 2 * field.depth);
@@ -60,8 +62,5 @@ pub fn store(title: &str, octets: &[u8]) -> String {
 }
 
 fn head(title: &str, length: usize) -> String {
-    format!(
-        "# {title}, {length} octets, by nattveldi-inspect {VERSION}\n\
-         # {PLACEHOLDERS}\n"
-    )
+    format!("# {title}, {length} octets, by nattveldi-inspect {VERSION}\n")
 }

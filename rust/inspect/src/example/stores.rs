@@ -1,8 +1,7 @@
 //! A store with the three example certificates.
 
 use super::certificates::{authority, root, ticket};
-
-const GOOD: u8 = 1;
+use crate::verdict::GOOD;
 
 /// The library fills it; the verdicts on the placeholder signatures are given
 /// as good.

@@ -20,7 +20,8 @@ pub fn placeholder_signature(octet: u8) -> Vec<u8> {
     [vec![0, 0], vec![octet; 32], vec![octet + 1; 32]].concat()
 }
 
-/// A place, northwest or southeast, in degrees.
+/// A latitude and a longitude, given in degrees: a corner of a region, or where a
+/// message was sent.
 pub fn place(latitude: i32, longitude: i32) -> Vec<u8> {
     let tenths = |degrees: i32| (10_000_000 * degrees).to_be_bytes();
     [tenths(latitude), tenths(longitude)].concat()

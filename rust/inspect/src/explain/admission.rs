@@ -1,16 +1,15 @@
 //! Install and admit, test by test.
 
-use super::issue::issued_by;
+use nattveldi::Refusal::{AlreadyHeld, Full, Signature, Withdrawn, WrongKind};
+
+use super::issue::{issued_by, stored};
 use super::library::{reads, store_is_valid, store_length};
 use super::steps::Steps;
 use super::Explanation;
 use crate::reading;
 use crate::store::{Record, Slots, WITHDRAWN};
-use crate::text::{hex, kind};
-use crate::verdict;
-
-const ROOT: u8 = 4;
-const GOOD: u8 = 1;
+use crate::text::kind::{self, ROOT};
+use crate::verdict::{self, GOOD};
 
 pub fn install(store: &[u8], certificate: &[u8], verdict: u8) -> Explanation {
     Explanation::of(|steps| tests(steps, store, certificate, verdict, true))
@@ -38,22 +37,19 @@ fn tests(
         "a ticket or an authority"
     };
     let text = format!("it is {wanted}: {}", kind::word(record.kind));
-    steps.test(10, (record.kind == ROOT) == wants_root, text)?;
+    steps.test(WrongKind, (record.kind == ROOT) == wants_root, text)?;
     let held = slots.find(&record.id);
     let place = held.map_or(String::new(), |(slot, _)| format!("; slot {slot} has it"));
-    steps.test(
-        17,
-        held.is_none(),
-        format!("its id is in no filled slot{place}"),
-    )?;
+    let text = format!("its id is in no filled slot{place}");
+    steps.test(AlreadyHeld, held.is_none(), text)?;
     if !wants_root {
         issuer(steps, &slots, &record)?;
     }
     let text = format!("the chip's verdict on its signature is 1: {verdict}");
-    steps.test(15, verdict == GOOD, text)?;
+    steps.test(Signature, verdict == GOOD, text)?;
     let empty = slots.first_empty();
     let place = empty.map_or("none is".to_string(), |slot| format!("slot {slot}"));
-    steps.test(16, empty.is_some(), format!("a slot is empty: {place}"))
+    steps.test(Full, empty.is_some(), format!("a slot is empty: {place}"))
 }
 
 /// Its fields and its id are the library's.
@@ -67,17 +63,9 @@ fn read(steps: &mut Steps, octets: &[u8]) -> Result<Record, u8> {
 
 /// One step up: here withdrawn comes before the limits.
 fn issuer(steps: &mut Steps, slots: &Slots, record: &Record) -> Result<(), u8> {
-    let found = slots.find(&record.issuer);
-    let place = found.map_or("it is not".to_string(), |(slot, _)| format!("slot {slot}"));
-    let id = hex::text(&record.issuer);
-    steps.test(
-        7,
-        found.is_some(),
-        format!("its issuer {id} is stored: {place}"),
-    )?;
-    let (_, issuer) = found.ok_or(7)?;
+    let issuer = stored(steps, slots, "its issuer", &record.issuer)?;
     steps.note(format!("its issuer is {}", issuer.title()));
     let text = "the issuer is not withdrawn";
-    steps.test(8, issuer.state != WITHDRAWN, text)?;
+    steps.test(Withdrawn, issuer.state != WITHDRAWN, text)?;
     issued_by(steps, record, issuer)
 }

@@ -1,5 +1,6 @@
 //! Decide, test by test.
 
+use nattveldi::Refusal::{BadCall, NotPermitted, OutOfDate, Signature, WrongKind};
 use nattveldi::Situation;
 
 use super::issue::list;
@@ -10,15 +11,14 @@ use super::walk::{walk, Circumstances};
 use super::Explanation;
 use crate::reading::{self, Message, Signer, MOST_LATITUDE, MOST_LONGITUDE};
 use crate::store::Slots;
-use crate::text::{degrees, time};
-use crate::verdict;
+use crate::text::degrees;
+use crate::text::kind::TICKET;
+use crate::text::time::{self, MICROSECONDS};
+use crate::verdict::{self, GOOD};
 
 const LONGEST_AGE: u64 = 600_000_000;
 /// What an age of 0 stands for.
 pub const DEFAULT_AGE: u64 = 2_000_000;
-const MICROSECONDS: u64 = 1_000_000;
-const TICKET: u8 = 1;
-const GOOD: u8 = 1;
 
 /// The arguments of decide.
 pub struct Case<'a> {
@@ -42,7 +42,7 @@ fn tests(steps: &mut Steps, case: &Case) -> Result<(), u8> {
     let slots = Slots::of(case.store);
     let signer = signer(steps, &slots, case.message, &message)?;
     steps.note(format!("the signer is {}", signer.title()));
-    steps.test(10, signer.kind == TICKET, "the signer is a ticket")?;
+    steps.test(WrongKind, signer.kind == TICKET, "the signer is a ticket")?;
     walk(steps, &slots, &signer, &circumstances(&message, case))?;
     let permitted = signer.permissions.contains(&message.its_aid);
     let text = format!(
@@ -51,7 +51,7 @@ fn tests(steps: &mut Steps, case: &Case) -> Result<(), u8> {
         list(&signer.permissions)
     );
     steps.note("the message again");
-    steps.test(11, permitted, text)?;
+    steps.test(NotPermitted, permitted, text)?;
     signatures(steps, &message, case)
 }
 
@@ -59,13 +59,10 @@ fn situation(steps: &mut Steps, s: &Situation) -> Result<(), u8> {
     let in_range = (-MOST_LATITUDE..=MOST_LATITUDE).contains(&s.latitude)
         && (-MOST_LONGITUDE..=MOST_LONGITUDE).contains(&s.longitude);
     let place = degrees::place(s.latitude, s.longitude);
-    steps.test(
-        1,
-        in_range,
-        format!("the own position is in range: {place}"),
-    )?;
+    let text = format!("the own position is in range: {place}");
+    steps.test(BadCall, in_range, text)?;
     let text = format!("the age is at most {LONGEST_AGE} microseconds: {}", s.age);
-    steps.test(1, s.age <= LONGEST_AGE, text)
+    steps.test(BadCall, s.age <= LONGEST_AGE, text)
 }
 
 fn read(steps: &mut Steps, octets: &[u8]) -> Result<Message, u8> {
@@ -81,13 +78,13 @@ fn in_time(steps: &mut Steps, message: &Message, s: &Situation) -> Result<(), u8
         "generation_time {} and now {} differ by {apart} microseconds, at most {age}",
         message.generation_time, s.now
     );
-    steps.test(14, apart <= age, text)?;
+    steps.test(OutOfDate, apart <= age, text)?;
     let Some(expiration) = message.expiration else {
         return Ok(());
     };
     let second = s.now / MICROSECONDS;
     let text = format!("expiry_time {expiration} is after the whole second of now, {second}");
-    steps.test(14, u64::from(expiration) > second, text)
+    steps.test(OutOfDate, u64::from(expiration) > second, text)
 }
 
 fn circumstances(message: &Message, case: &Case) -> Circumstances {
@@ -103,12 +100,12 @@ fn signatures(steps: &mut Steps, message: &Message, case: &Case) -> Result<(), u
     if let Signer::Certificate(_) = message.signer {
         let verdict = case.certificate_verdict;
         let text = format!("the chip's verdict on the certificate's signature is 1: {verdict}");
-        steps.test(15, verdict == GOOD, text)?;
+        steps.test(Signature, verdict == GOOD, text)?;
     }
     let verdict = case.verdict;
     let text = format!("the chip's verdict on the message's signature is 1: {verdict}");
-    steps.test(15, verdict == GOOD, text)?;
-    let age = time::microsecond(message.generation_time);
-    steps.note(format!("no test is left; generation_time is {age}"));
+    steps.test(Signature, verdict == GOOD, text)?;
+    let generated = time::microsecond(message.generation_time);
+    steps.note(format!("no test is left; generation_time is {generated}"));
     Ok(())
 }

@@ -1,30 +1,31 @@
 //! Tests that the library answers: whether a store is valid, and whether octets
 //! read. The place and reason of a fault are this tool's own reading.
 
+use nattveldi::Refusal;
+
 use super::steps::Steps;
 use crate::reading::Reading;
-use crate::store::{first_broken, layout};
+use crate::store::{first_broken, layout, Broken};
 use crate::verdict;
 
-const BAD_STORE: u8 = 2;
 const STORE_LENGTH: usize = layout::SLOTS * layout::SLOT_LENGTH;
 
 pub fn store_length(steps: &mut Steps, store: &[u8]) -> Result<(), u8> {
     let text = format!("the store has {STORE_LENGTH} octets: {}", store.len());
-    steps.test(1, store.len() == STORE_LENGTH, text)
+    steps.test(Refusal::BadCall, store.len() == STORE_LENGTH, text)
 }
 
 pub fn store_is_valid(steps: &mut Steps, store: &[u8]) -> Result<(), u8> {
     let library = verdict::store(store);
     let broken = first_broken(store);
-    let own = if broken.is_some() { BAD_STORE } else { 0 };
+    let own = broken.as_ref().map_or(0, Broken::number);
     let rule = match broken {
         _ if own != library => does_not_fit(library, own),
         Some(broken) => format!("; octet {}: {}", broken.offset(), broken.rule),
         None => String::new(),
     };
     let text = format!("the store is valid, says the library{rule}");
-    let tested = steps.test(BAD_STORE, library == 0, text);
+    let tested = steps.test(Refusal::BadStore, library == 0, text);
     if_fits(tested, library, own)
 }
 

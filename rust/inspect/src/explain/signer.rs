@@ -3,10 +3,12 @@
 
 use std::ops::Range;
 
+use nattveldi::Refusal::{OtherCertificate, Withdrawn};
+
+use super::issue::stored;
 use super::steps::Steps;
 use crate::reading::{Message, Signer};
 use crate::store::{Record, Slots, WITHDRAWN};
-use crate::text::hex;
 
 pub fn signer(
     steps: &mut Steps,
@@ -15,17 +17,9 @@ pub fn signer(
     message: &Message,
 ) -> Result<Record, u8> {
     match &message.signer {
-        Signer::Id(id) => named(steps, slots, id),
+        Signer::Id(id) => stored(steps, slots, "the signer", id).cloned(),
         Signer::Certificate(range) => carried(steps, slots, octets, range),
     }
-}
-
-fn named(steps: &mut Steps, slots: &Slots, id: &[u8; 8]) -> Result<Record, u8> {
-    let found = slots.find(id);
-    let place = found.map_or("it is not".to_string(), |(slot, _)| format!("slot {slot}"));
-    let text = format!("the signer {} is stored: {place}", hex::text(id));
-    steps.test(7, found.is_some(), text)?;
-    found.map(|(_, record)| record.clone()).ok_or(7)
 }
 
 /// Its fields and its id are the library's.
@@ -45,10 +39,10 @@ fn carried(
         return Ok(record);
     };
     let text = format!("slot {slot} has its id, and is not withdrawn");
-    steps.test(8, stored.state != WITHDRAWN, text)?;
+    steps.test(Withdrawn, stored.state != WITHDRAWN, text)?;
     let difference = record.difference(stored);
     let words = difference.map_or(String::new(), |field| format!("; {field} differs"));
     let text = format!("slot {slot} holds the same fields{words}");
-    steps.test(9, difference.is_none(), text)?;
+    steps.test(OtherCertificate, difference.is_none(), text)?;
     Ok(record)
 }

@@ -1,5 +1,7 @@
 //! Tests one after the other, up to the first that fails.
 
+use nattveldi::Refusal;
+
 use crate::verdict;
 
 /// A line of an explanation.
@@ -26,8 +28,17 @@ impl Steps {
     }
 
     /// `Err` with the number if the test fails, so that `?` ends there.
-    pub fn test(&mut self, number: u8, passed: bool, text: impl Into<String>) -> Result<(), u8> {
-        self.named(verdict::short(number), passed, text.into());
+    pub fn test(
+        &mut self,
+        refusal: Refusal,
+        passed: bool,
+        text: impl Into<String>,
+    ) -> Result<(), u8> {
+        self.numbered(refusal.number(), passed, text.into())
+    }
+
+    fn numbered(&mut self, number: u8, passed: bool, text: String) -> Result<(), u8> {
+        self.named(verdict::short(number), passed, text);
         if passed {
             Ok(())
         } else {
@@ -38,7 +49,7 @@ impl Steps {
     /// The reading of octets by the library, which has several numbers.
     pub fn reading(&mut self, library: u8, text: String) -> Result<(), u8> {
         if library != 0 {
-            return self.test(library, false, text);
+            return self.numbered(library, false, text);
         }
         self.named("3 to 6, reading".to_string(), true, text);
         Ok(())

@@ -1,13 +1,15 @@
 //! The walk from a certificate upward (document 01, "How a chain is walked").
 
-use super::issue::{issued_by, region};
+use nattveldi::Refusal::{ChainTooLong, OutsidePeriod, OutsidePlace, Withdrawn};
+
+use super::issue::{issued_by, region, stored};
 use super::steps::Steps;
 use crate::store::{scope, Record, Slots, WITHDRAWN};
-use crate::text::{degrees, hex, time};
+use crate::text::kind::ROOT;
+use crate::text::{degrees, time};
 
 /// The most certificates of a chain, the root among them.
 const LONGEST_CHAIN: usize = 8;
-const ROOT: u8 = 4;
 
 /// When and where a chain is walked.
 pub struct Circumstances {
@@ -32,8 +34,8 @@ pub fn walk(
             break;
         }
         let text = format!("it is no root, and not number {LONGEST_CHAIN} of the chain");
-        steps.test(18, count < LONGEST_CHAIN, text)?;
-        let issuer = issuer(steps, slots, subject)?;
+        steps.test(ChainTooLong, count < LONGEST_CHAIN, text)?;
+        let issuer = stored(steps, slots, "its issuer", &subject.issuer)?;
         issued_by(steps, subject, issuer)?;
         subject = issuer;
     }
@@ -43,31 +45,19 @@ pub fn walk(
 
 fn own_tests(steps: &mut Steps, subject: &Record, c: &Circumstances) -> Result<(), u8> {
     let is_withdrawn = subject.state == WITHDRAWN || c.withdrawn == Some(subject.id);
-    steps.test(8, !is_withdrawn, "it is not withdrawn")?;
+    steps.test(Withdrawn, !is_withdrawn, "it is not withdrawn")?;
     let (start, end) = (subject.start, subject.end);
     let text = format!(
         "second {} ({} UTC) is in its period, {start} up to before {end}",
         c.second,
         time::date(c.second)
     );
-    steps.test(12, (start..end).contains(&c.second), text)?;
+    steps.test(OutsidePeriod, (start..end).contains(&c.second), text)?;
     if let Some((latitude, longitude)) = c.position {
         let inside = scope::holds_place(&subject.rectangles, latitude, longitude);
         let place = degrees::place(latitude, longitude);
         let text = format!("{place} is in its region, {}", region(subject));
-        steps.test(13, inside, text)?;
+        steps.test(OutsidePlace, inside, text)?;
     }
     Ok(())
-}
-
-fn issuer<'a>(steps: &mut Steps, slots: &'a Slots, subject: &Record) -> Result<&'a Record, u8> {
-    let found = slots.find(&subject.issuer);
-    let place = found.map_or("it is not".to_string(), |(slot, _)| format!("slot {slot}"));
-    let id = hex::text(&subject.issuer);
-    steps.test(
-        7,
-        found.is_some(),
-        format!("its issuer {id} is stored: {place}"),
-    )?;
-    found.map(|(_, record)| record).ok_or(7)
 }

@@ -1,11 +1,13 @@
 //! List and withdraw, test by test, and which certificates fall.
 
+use nattveldi::Refusal::Withdrawn;
+
+use super::issue::stored;
 use super::library::{store_is_valid, store_length};
 use super::steps::Steps;
 use super::walk::{walk, Circumstances};
 use super::Explanation;
 use crate::store::{Record, Slots, WITHDRAWN};
-use crate::text::hex;
 use crate::verdict;
 
 /// What a withdrawal would do to the certificates of a store.
@@ -33,14 +35,10 @@ fn tests(steps: &mut Steps, store: &[u8], id: &[u8; 8]) -> Result<(), u8> {
     store_length(steps, store)?;
     store_is_valid(steps, store)?;
     let slots = Slots::of(store);
-    let found = slots.find(id);
-    let place = found.map_or("it is not".to_string(), |(slot, _)| format!("slot {slot}"));
-    let text = format!("{} is stored: {place}", hex::text(id));
-    steps.test(7, found.is_some(), text)?;
-    let (_, record) = found.ok_or(7)?;
+    let record = stored(steps, &slots, "the id", id)?;
     steps.note(format!("the certificate is {}", record.title()));
     let held = record.state != WITHDRAWN;
-    steps.test(8, held, "it is not withdrawn yet")
+    steps.test(Withdrawn, held, "it is not withdrawn yet")
 }
 
 /// What stands and what falls is the library's; why is this tool's own walk,

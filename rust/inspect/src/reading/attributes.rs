@@ -4,11 +4,11 @@ use super::cursor::{fault, Cursor};
 use super::number::{CUT, MALFORMED, UNSUPPORTED};
 use super::points::Lacking;
 use super::Fault;
+use crate::text::kind::TICKET;
 
 const TYPE: &str = "subject_attribute.type";
 const MOST_PERMISSIONS: usize = 16;
 const LONGEST_SSP: usize = 31;
-const TICKET: u8 = 1;
 
 impl Cursor<'_> {
     /// The vector, and what it lacks.

@@ -7,7 +7,6 @@ use crate::text::{kind, name};
 
 const LONGEST: usize = 1_024;
 const LONGEST_NAME: usize = 32;
-const ROOT: u8 = 4;
 
 /// Reads a certificate that is the whole input.
 pub fn certificate(octets: &[u8]) -> Reading<()> {
@@ -57,7 +56,7 @@ impl Cursor<'_> {
         let reason = format!("subject_type {octet} is not read here");
         self.need(matches!(octet, 1 | 2 | 4), UNSUPPORTED, &reason)?;
         let reason = "root_ca goes with signer_info self, the others with a digest";
-        self.need((octet == ROOT) == is_self, MALFORMED, reason)?;
+        self.need((octet == kind::ROOT) == is_self, MALFORMED, reason)?;
         Ok(octet)
     }
 

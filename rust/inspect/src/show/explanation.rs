@@ -33,21 +33,23 @@ impl Lines {
 
 #[cfg(test)]
 mod tests {
+    use nattveldi::Refusal;
+
     use super::*;
     use crate::explain::Steps;
 
-    fn shown(library: u8, own: u8) -> String {
+    fn shown(library: Refusal, own: Refusal) -> String {
         let mut steps = Steps::default();
-        let _ = steps.test(own, false, "a rule");
-        let explanation = Explanation { steps, number: own };
+        let number = steps.test(own, false, "a rule").expect_err("it fails");
+        let explanation = Explanation { steps, number };
         let mut lines = Lines::about(&[]);
-        lines.explanation(&explanation, library);
+        lines.explanation(&explanation, library.number());
         lines.text
     }
 
     #[test]
     fn an_explanation_that_fits() {
-        let text = shown(12, 12);
+        let text = shown(Refusal::OutsidePeriod, Refusal::OutsidePeriod);
         assert!(text.contains("FAIL  12 outside period"));
         assert!(text.ends_with("the explanation arrives at 12, as the library does\n"));
         assert!(!text.contains("DOES NOT FIT"));
@@ -56,7 +58,7 @@ mod tests {
     /// It is said before and behind the steps.
     #[test]
     fn an_explanation_that_does_not_fit() {
-        let text = shown(12, 13);
+        let text = shown(Refusal::OutsidePeriod, Refusal::OutsidePlace);
         let said = "DOES NOT FIT: this explanation arrives at 13, the library at 12.";
         assert_eq!(text.matches(said).count(), 2, "{text}");
         assert!(!text.contains("as the library does"));

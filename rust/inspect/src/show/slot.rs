@@ -49,13 +49,18 @@ fn fields(record: &Record) -> Vec<Row> {
         (KIND, 0, "kind", kind_words),
         (START, 0, "start", time::second(record.start)),
         (END, 0, "end", time::second(record.end)),
-        (NAME_LENGTH, 0, "name length", record.name.len().to_string()),
+        (
+            NAME_LENGTH,
+            0,
+            "name length",
+            record.name_length.to_string(),
+        ),
         (whole(NAME), 0, "name", name::text(&record.name)),
         (KEY_PARITY, 0, "key parity", key_type),
         (whole(KEY), 0, "key", hex::text(&record.key)),
     ];
     regions(&mut rows, record);
-    let count = record.permissions.len().to_string();
+    let count = record.permission_count.to_string();
     rows.push((PERMISSION_COUNT, 0, "permission count", count));
     for (index, permission) in record.permissions.iter().enumerate() {
         let value = format!("ITS-AID {permission}");
@@ -65,7 +70,7 @@ fn fields(record: &Record) -> Vec<Row> {
 }
 
 fn regions(rows: &mut Vec<Row>, record: &Record) {
-    let count = match record.rectangles.len() {
+    let count = match record.rectangle_count {
         0 => "0 (everywhere)".to_string(),
         count => count.to_string(),
     };

@@ -1,13 +1,12 @@
 //! A store, slot by slot.
 
+use nattveldi::Refusal;
+
 use super::{Lines, Page};
 use crate::store::layout::SLOTS;
-use crate::store::{first_broken, Slots};
+use crate::store::{first_broken, Broken, Slots};
 use crate::text::time;
 use crate::verdict;
-
-const BAD_CALL: u8 = 1;
-const BAD_STORE: u8 = 2;
 
 /// `at` is a second for which the library is asked what stands.
 pub fn store(source: String, given: &[u8], at: Option<u32>) -> Page {
@@ -17,12 +16,14 @@ pub fn store(source: String, given: &[u8], at: Option<u32>) -> Page {
         0 => lines.label("verdict", "a valid store"),
         _ => lines.label("verdict", &verdict::sentence(number)),
     }
-    if number == BAD_CALL || !lines.fits(given, number) {
+    if number == Refusal::BadCall.number() || !lines.fits(given, number) {
         return lines.page(number);
     }
     let slots = Slots::of(given);
     let counts = format!("{} filled, {} empty", slots.count(), SLOTS - slots.count());
     lines.label("slots", &counts);
+    // The library says what stands only in a valid store.
+    let at = at.filter(|_| number == 0);
     if let Some(second) = at {
         lines.label(
             "standing",
@@ -33,7 +34,7 @@ pub fn store(source: String, given: &[u8], at: Option<u32>) -> Page {
     lines.plain("octet.bit  bits  field");
     for (slot, record) in slots.iter() {
         let stands = |second| verdict::stands(given, slot, &record.id, second);
-        let words = match at.filter(|_| number == 0).map(stands) {
+        let words = match at.map(stands) {
             None => "",
             Some(true) => ", stands",
             Some(false) => ", does not stand",
@@ -48,7 +49,7 @@ impl Lines {
     /// whether that reading fits the library's verdict.
     fn fits(&mut self, given: &[u8], library: u8) -> bool {
         let broken = first_broken(given);
-        let own = if broken.is_some() { BAD_STORE } else { 0 };
+        let own = broken.as_ref().map_or(0, Broken::number);
         if let Some(unfit) = verdict::unfit("this tool's own reading", library, own) {
             self.label("layout", &unfit);
             self.label("", "No slots are given.");

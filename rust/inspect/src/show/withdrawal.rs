@@ -6,10 +6,14 @@ use crate::text::{hex, time};
 use crate::verdict;
 
 pub fn list(source: String, store: &[u8], id: &[u8; 8], second: u32) -> Page {
+    listed(format!("store: {source}"), store, id, second)
+}
+
+fn listed(input: String, store: &[u8], id: &[u8; 8], second: u32) -> Page {
     let answer = nattveldi::list(store, id, second);
     let number = verdict::number(&answer);
     let own = explain::list(store, id, second);
-    let mut lines = Lines::about(&[format!("store: {source}")]);
+    let mut lines = Lines::about(&[input]);
     lines.label("id", &hex::text(id));
     lines.label("at", &time::second(second.into()));
     lines.label("list", &verdict::sentence(number));
@@ -32,6 +36,7 @@ pub fn list(source: String, store: &[u8], id: &[u8; 8], second: u32) -> Page {
 /// The input of the program `page`: its text, and the list explained.
 pub fn page(source: String, input: &[u8]) -> Page {
     let text = nattveldi::page(input);
+    let source = format!("input of page: {source}");
     let Some((store, rest)) = input.split_at_checked(nattveldi::STORE_LENGTH) else {
         return refused(source, &text);
     };
@@ -41,7 +46,7 @@ pub fn page(source: String, input: &[u8]) -> Page {
     ) else {
         return refused(source, &text);
     };
-    let page = list(source, store, id, u32::from_be_bytes(second));
+    let page = listed(source, store, id, u32::from_be_bytes(second));
     Page {
         text: format!("{}\nthe library's page:\n{text}", page.text),
         ..page
@@ -49,8 +54,8 @@ pub fn page(source: String, input: &[u8]) -> Page {
 }
 
 /// An input that has not 13,580 octets.
-fn refused(source: String, text: &str) -> Page {
-    let mut lines = Lines::about(&[format!("input of page: {source}")]);
+fn refused(input: String, text: &str) -> Page {
+    let mut lines = Lines::about(&[input]);
     lines.label("page", text.trim_end());
     lines.label(
         "",

@@ -9,7 +9,8 @@ use crate::text::{hex, kind, name};
 pub const HELD: u8 = 1;
 pub const WITHDRAWN: u8 = 2;
 
-/// The fields of a slot. Counts above the room are taken as the room.
+/// The fields of a slot. Length and counts are what it says, and a bad store may
+/// say more than it has room for; name, rectangles and permissions fit the room.
 #[derive(Clone, Debug, PartialEq, Eq)]
 pub struct Record {
     pub id: [u8; 8],
@@ -18,18 +19,23 @@ pub struct Record {
     pub kind: u8,
     pub start: u64,
     pub end: u64,
+    pub name_length: usize,
     pub name: Vec<u8>,
     /// The point type of the key, 2 or 3.
     pub key_type: u8,
     pub key: Vec<u8>,
+    pub rectangle_count: usize,
     pub rectangles: Vec<Rectangle>,
+    pub permission_count: usize,
     pub permissions: Vec<u32>,
 }
 
 impl Record {
     pub fn from_slot(slot: &[u8]) -> Record {
         let number = |place: Place| bits::number(slot, place.bit, place.width);
-        let within = |place: Place, room: Place| (number(place) as usize).min(room.count);
+        let count = |place: Place| number(place) as usize;
+        let (name_length, rectangle_count) = (count(NAME_LENGTH), count(RECTANGLE_COUNT));
+        let permission_count = count(PERMISSION_COUNT);
         let permission = |i| bits::number(slot, PERMISSIONS.of(i), PERMISSIONS.width) as u32;
         Record {
             id: number(ID).to_be_bytes(),
@@ -38,13 +44,16 @@ impl Record {
             kind: number(KIND) as u8,
             start: number(START),
             end: number(END),
-            name: bits::octets(slot, NAME.bit, within(NAME_LENGTH, NAME)),
+            name_length,
+            name: bits::octets(slot, NAME.bit, name_length.min(NAME.count)),
             key_type: number(KEY_PARITY) as u8 + 2,
             key: bits::octets(slot, KEY.bit, KEY.count),
-            rectangles: (0..within(RECTANGLE_COUNT, RECTANGLES))
+            rectangle_count,
+            rectangles: (0..rectangle_count.min(RECTANGLES.count))
                 .map(|i| rectangle(slot, i))
                 .collect(),
-            permissions: (0..within(PERMISSION_COUNT, PERMISSIONS))
+            permission_count,
+            permissions: (0..permission_count.min(PERMISSIONS.count))
                 .map(permission)
                 .collect(),
         }
@@ -63,10 +72,13 @@ impl Record {
             kind: fields.kind as u8,
             start: fields.period.start.into(),
             end: fields.period.end,
+            name_length: fields.name.length,
             name: fields.name.of(octets).to_vec(),
             key_type: fields.key.point_type as u8,
             key: fields.key.x.of(octets).to_vec(),
+            rectangle_count: fields.rectangles().len(),
             rectangles: fields.rectangles().to_vec(),
+            permission_count: fields.permissions().len(),
             permissions: fields.permissions().iter().map(|p| p.its_aid).collect(),
         }
     }

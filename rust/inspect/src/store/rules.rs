@@ -1,6 +1,6 @@
 //! The rules of a store, and the first one that is broken.
 
-use nattveldi::Rectangle;
+use nattveldi::{Rectangle, Refusal};
 
 use super::bits::{first_set, number};
 use super::layout::*;
@@ -20,6 +20,11 @@ pub struct Broken {
 }
 
 impl Broken {
+    /// The number that a store with a broken rule is refused by.
+    pub fn number(&self) -> u8 {
+        Refusal::BadStore.number()
+    }
+
     pub fn offset(&self) -> usize {
         SLOT_LENGTH * self.slot + self.bit / 8
     }

@@ -1,11 +1,17 @@
 //! Kinds of certificates.
 
+use nattveldi::Kind;
+
+pub const TICKET: u8 = Kind::Ticket as u8;
+const AUTHORITY: u8 = Kind::Authority as u8;
+pub const ROOT: u8 = Kind::Root as u8;
+
 /// The project's word.
 pub fn word(kind: u8) -> &'static str {
     match kind {
-        1 => "ticket",
-        2 => "authority",
-        4 => "root",
+        TICKET => "ticket",
+        AUTHORITY => "authority",
+        ROOT => "root",
         _ => "no kind that is read",
     }
 }

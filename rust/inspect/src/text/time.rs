@@ -3,7 +3,8 @@
 
 use super::{calendar, leap};
 
-const MICROSECONDS: u64 = 1_000_000;
+/// So many are a second.
+pub const MICROSECONDS: u64 = 1_000_000;
 
 pub fn second(tai: u64) -> String {
     format!("TAI second {tai} = {} UTC", date(tai))

@@ -70,14 +70,13 @@ pub fn has_line(answer: &Answer, words: &[&str]) {
     assert!(answer.out.lines().any(all), "{words:?} in\n{}", answer.out);
 }
 
+/// Fails with the whole output unless a line has these words and no other.
+pub fn has_whole_line(answer: &Answer, words: &str) {
+    let same = |line: &str| line.split_whitespace().eq(words.split_whitespace());
+    assert!(answer.out.lines().any(same), "{words} in\n{}", answer.out);
+}
+
 /// The row of the field at an offset: its length, and what follows.
 pub fn has_field(answer: &Answer, offset: usize, length: usize, name: &str, value: &str) {
-    let found = answer.out.lines().any(|line| {
-        let mut words = line.split_whitespace();
-        let numbers = [words.next(), words.next()].map(|w| w.and_then(|w| w.parse().ok()));
-        let rest: Vec<&str> = words.collect();
-        let rest = rest.join(" ");
-        numbers == [Some(offset), Some(length)] && rest == format!("{name} {value}").trim_end()
-    });
-    assert!(found, "{offset} {length} {name} {value} in\n{}", answer.out);
+    has_whole_line(answer, &format!("{offset} {length} {name} {value}"));
 }

@@ -4,6 +4,7 @@
 
 pub mod chains;
 pub mod messages;
+pub mod sets;
 pub mod stores;
 
 use reference::{read, Certificate};

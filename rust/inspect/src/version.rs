@@ -1,3 +1,0 @@
-//! The version that `--version` prints: the library's.
-
-pub use nattveldi::VERSION;
