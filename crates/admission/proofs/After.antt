@@ -30,8 +30,7 @@ use Rattle.entries.proofs.Facts.{facts}
 use Rattle.entries.proofs.Rules.{rules}
 use Rattle.entries.proofs.Whole.{whole-of}
 use Rattle.admission.proofs.Good.{good}
-use Rattle.admission.proofs.Entered.{pair}
-use Rattle.admission.proofs.Exactly.{found-exactly, refused-keeps}
+use Rattle.admission.proofs.Exactly.{empty-not, left-by}
 
 same-or : (i j : ℕ) → (i ≡ j) ⊎ (i ≢ j)
 same-or i j = elim (decLe i j) [
@@ -153,15 +152,22 @@ module _ (store octets : List ℕ) (verdict : ℕ) (c : Certificate) (after : Li
         one-more = put .one-more;
       })
 
--- ---- a valid store stays valid
+-- ---- accepted or not
 
-module _ (anchor : Bool) (store octets : List ℕ) (verdict : ℕ) (are : Octets octets) (v : Valid store) where
-  left-valid : (n : ℕ) → entered anchor store octets verdict .0 ≡ n → Valid (entered anchor store octets verdict .1)
-  left-valid zero e =
-      let p : entered anchor store octets verdict ≡ (0, entered anchor store octets verdict .1) = ap (λ (n : ℕ). pair n (entered anchor store octets verdict .1)) e in
-      let f = found-exactly anchor store octets verdict (entered anchor store octets verdict .1) .0 p in
-      one-more store octets verdict (f .certificate) (entered anchor store octets verdict .1) are (f .rules) .valid
-  left-valid (suc k) e = subst (λ (l : List ℕ). Valid l) (sym (refused-keeps anchor store octets verdict (λ z. let w : suc k ≡ 0 = sym e ∙ z in absurd (omega arith)))) v
+module _ (anchor : Bool) (store octets : List ℕ) (verdict : ℕ) where
+  pub filled-kept : (i : ℕ) → i < 64 → filledAt store i ≡ true → slotOf (entered anchor store octets verdict .1) i ≡ slotOf store i
+  filled-kept i h f = ⊎-elim
+      (λ found.
+      let e = found .rules in
+      let r = recordFrom octets (found .certificate) in
+      let free = e .lowest-empty in
+      ap (λ (l : List ℕ). slotOf l i) (e .written)
+      ∙ slot-other store (e .slot) (imageOf r) (e .size) (free .slot) (image-long r) i h (λ same. empty-not store i (ap (stateAt store) same ∙ free .empty) f))
+      (λ e. ap (λ (l : List ℕ). slotOf l i) e)
+      (left-by anchor store octets verdict)
 
-  pub stays-valid : Valid (entered anchor store octets verdict .1)
-  stays-valid = left-valid (entered anchor store octets verdict .0) refl
+  pub stays-valid : Octets octets → Valid store → Valid (entered anchor store octets verdict .1)
+  stays-valid are v = ⊎-elim
+      (λ found. one-more store octets verdict (found .certificate) (entered anchor store octets verdict .1) are (found .rules) .valid)
+      (λ e. subst (λ (l : List ℕ). Valid l) (sym e) v)
+      (left-by anchor store octets verdict)

@@ -11,8 +11,8 @@ use native.Mathlib.Nat.{eq-or-lt-of-le, lt-of-not-le}
 use lib.ListN.{length}
 use lib.Dec.{eqb}
 use borrow.Author.Tests.{eq-eqb, ne-eqb, eqb-true}
-use Rattle.order.specs.Steps.{Answer, gives, refused, number as answerNumber, done, run, rows, First, Gives, Refuses, Named, Numbered, Well, well}
-use Rattle.order.proofs.Steps.{gives-refused, gives-exactly, number-exactly, refuses-at, run-named, needs-to, needs-from}
+use Rattle.order.specs.Steps.{Answer, gives, refused, number as answerNumber, done, run, rows, First, Gives, Named, Numbered, Well, well}
+use Rattle.order.proofs.Steps.{gives-refused, gives-exactly, refuses-at, run-named, needs-to, needs-from}
 use Rattle.octets.specs.Reading.{Out, got, refused as unread}
 use Rattle.certificate.specs.Operations.{whole, answerOf, readingOf}
 use Rattle.certificate.specs.declared.certificates.Certificate.{Certificate}
@@ -41,7 +41,7 @@ use Rattle.admission.proofs.Entered.{read-gives}
 
 -- ---- searches
 
-empty-not : (l : List ℕ) (i : ℕ) → stateAt l i ≡ EMPTY → filledAt l i ≡ true → ⊥
+pub empty-not : (l : List ℕ) (i : ℕ) → stateAt l i ≡ EMPTY → filledAt l i ≡ true → ⊥
 empty-not l i e f = never (sym (ap (λ (n : ℕ). not (eqb n 0)) e) ∙ f)
 
 lowest-to : (l : List ℕ) (i : ℕ) → lowestEmpty l ≡ some i → LowestEmpty l i
@@ -182,7 +182,7 @@ module _ (anchor : Bool) (store octets : List ℕ) (verdict : ℕ) where
   left-gives (refused zero) n after e = absurd n
   left-gives (refused (suc k)) n after e = let z : suc k ≡ 0 = ap (λ (p : ℕ × List ℕ). p .0) e in absurd (omega arith)
 
-  pub found-exactly : (after : List ℕ) → (entered anchor store octets verdict ≡ (0, after)) ↔ Found after
+  found-exactly : (after : List ℕ) → (entered anchor store octets verdict ≡ (0, after)) ↔ Found after
   unfolding entered
   found-exactly after =
       let s = entering anchor store octets verdict in (
@@ -190,16 +190,18 @@ module _ (anchor : Bool) (store octets : List ℕ) (verdict : ℕ) where
         (λ f. ap (leaving store) (gives-exactly s after .1 (from-rules after f))),
       )
 
+  -- the store that is left comes of the rules, or is the old one
+  pub left-by : Found (entered anchor store octets verdict .1) ⊎ (entered anchor store octets verdict .1 ≡ store)
+  unfolding entered
+  left-by = by (run (entering anchor store octets verdict)) refl
+    where
+      by : (a : Answer (List ℕ)) → run (entering anchor store octets verdict) ≡ a → Found (leaving store a .1) ⊎ (leaving store a .1 ≡ store)
+      by (gives l) e = inl (to-rules l (gives-exactly (entering anchor store octets verdict) l .0 e))
+      by (refused k) e = inr refl
+
   left-number : (a : Answer (List ℕ)) → leaving store a .0 ≡ answerNumber a
   left-number (gives l) = refl
   left-number (refused k) = refl
-
-  pub refused-exactly : (k : ℕ) → ¬ (k ≡ 0) → (entered anchor store octets verdict .0 ≡ k) ↔ Refuses (entering anchor store octets verdict) k
-  unfolding entered
-  refused-exactly k n =
-      let s = entering anchor store octets verdict in
-      let x = number-exactly s k n in
-      ((λ e. x .0 (sym (left-number (run s)) ∙ e)), (λ r. left-number (run s) ∙ x .1 r))
 
   pub refused-first : (k : ℕ) → ¬ (k ≡ 0) → (entered anchor store octets verdict .0 ≡ k) ↔ First (rows (entering anchor store octets verdict)) k
   unfolding entered

@@ -4,8 +4,8 @@ use Rattle.order.proofs.Steps.{refuses-at}
 use Rattle.entries.proofs.Kept.{kept-of}
 use Rattle.admission.specs.Order.{issuerSteps}
 use Rattle.entries.proofs.Whole.{whole-of}
-use Rattle.admission.proofs.Exactly.{installed-exactly, admitted-exactly, refused-exactly, refused-first, refused-keeps}
-use Rattle.admission.proofs.After.{one-more, stays-valid}
+use Rattle.admission.proofs.Exactly.{installed-exactly, admitted-exactly, refused-first, refused-keeps}
+use Rattle.admission.proofs.After.{filled-kept, one-more, stays-valid}
 
 pub laws : Laws
 laws =
@@ -14,10 +14,10 @@ laws =
       whole = whole-of;
       installed-exactly = installed-exactly;
       admitted-exactly = admitted-exactly;
-      refused-exactly = refused-exactly;
       refused-first = refused-first;
       issuer-first = λ anchor store r k z. refuses-at (issuerSteps anchor store r) k z;
       refused-keeps = refused-keeps;
+      filled-kept = filled-kept;
       one-more = one-more;
       stays-valid = stays-valid;
     }

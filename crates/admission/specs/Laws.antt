@@ -1,16 +1,16 @@
 -- What is proved of install and admit (proofs/Laws.antt).
 use Prim.Native.Nat.{ℕ, suc, _<_}
 use mathlib.Core.Path.{_≡_}
-use mathlib.Core.Bool.{Bool}
+use mathlib.Core.Bool.{Bool, true}
 use mathlib.Core.Logic.{_↔_, _≢_}
 use mathlib.Core.List.{List}
-use Rattle.order.specs.Steps.{number as answerNumber, run, rows, First, Refuses}
+use Rattle.order.specs.Steps.{number as answerNumber, run, rows, First}
 use Rattle.certificate.specs.Operations.{readingOf}
 use Rattle.certificate.specs.declared.certificates.Certificate.{Certificate}
 use Rattle.bitfields.specs.Field.{number, Octets}
 use Rattle.records.specs.Records.{recordOf}
 use Rattle.records.specs.declared.Record.{Record}
-use Rattle.store.specs.Slots.{slotOf, HELD, stateAt, idAt}
+use Rattle.store.specs.Slots.{slotOf, HELD, stateAt, filledAt, idAt}
 use Rattle.validity.specs.Laws.{Valid}
 use Rattle.entries.specs.Readable.{accepted}
 use Rattle.entries.specs.Stored.{recordFrom}
@@ -42,14 +42,14 @@ pub record Laws : Type 0 where
   pub installed-exactly : (store octets : List ℕ) (verdict : ℕ) (after : List ℕ) → (installed store octets verdict ≡ (0, after)) ↔ Installed store octets verdict after
   pub admitted-exactly : (store octets : List ℕ) (verdict : ℕ) (after : List ℕ) → (admitted store octets verdict ≡ (0, after)) ↔ Admitted store octets verdict after
   -- a refusal is by the first test of the order that fails, and leaves the store
-  pub refused-exactly : (anchor : Bool) (store octets : List ℕ) (verdict k : ℕ) → ¬ (k ≡ 0)
-      → (entered anchor store octets verdict .0 ≡ k) ↔ Refuses (entering anchor store octets verdict) k
   pub refused-first : (anchor : Bool) (store octets : List ℕ) (verdict k : ℕ) → ¬ (k ≡ 0)
       → (entered anchor store octets verdict .0 ≡ k) ↔ First (rows (entering anchor store octets verdict)) k
   -- inside the row of the issuer: 7, 8, 10 to 13
   pub issuer-first : (anchor : Bool) (store : List ℕ) (r : Record) (k : ℕ) → ¬ (k ≡ 0)
       → (answerNumber (run (issuerSteps anchor store r)) ≡ k) ↔ First (rows (issuerSteps anchor store r)) k
   pub refused-keeps : (anchor : Bool) (store octets : List ℕ) (verdict : ℕ) → ¬ (entered anchor store octets verdict .0 ≡ 0) → entered anchor store octets verdict .1 ≡ store
+  -- a filled slot, also a withdrawn one, stays as it is, accepted or not
+  pub filled-kept : (anchor : Bool) (store octets : List ℕ) (verdict i : ℕ) → i < 64 → filledAt store i ≡ true → slotOf (entered anchor store octets verdict .1) i ≡ slotOf store i
   -- one certificate more, and a valid store stays valid
   pub one-more : (store octets : List ℕ) (verdict : ℕ) (c : Certificate) (after : List ℕ) → Octets octets → Entered store octets verdict c after → OneMore store octets c after
   pub stays-valid : (anchor : Bool) (store octets : List ℕ) (verdict : ℕ) → Octets octets → Valid store → Valid (entered anchor store octets verdict .1)

@@ -5,18 +5,19 @@ use mathlib.Core.List.{List, [], _∷_, _++_, append-assoc}
 use native.Mathlib.Omega.{arith}
 use borrow.Author.Tests.{le-leb, leb-true}
 use lib.Dec.{leb}
-use lib.ListN.{length, drop, length-append}
-use lib.Seq.{drop-append-seam}
+use lib.ListN.{length, take, drop, length-append}
+use lib.Seq.{drop-at}
 use Rattle.octets.specs.Reading.{got}
 use Rattle.octets.proofs.Laws.{pass, need-got}
 use Rattle.message.specs.Messages.{Message, wholeMessage}
 use Rattle.certificate.specs.declared.certificates.Certificate.{Certificate}
 use Rattle.writing.specs.Written.{Octets, intxOctets, vectorOctets}
+use Rattle.writing.proofs.Lists.{take-here}
 use Rattle.layout.specs.Contents as certificate
 use Rattle.layout.specs.Layout as certificates
 use Rattle.layout.specs.Layout.{signatureOctets}
 use Rattle.layout.specs.Fields.{fieldsAt}
-use Rattle.message_layout.specs.Contents.{Signer, carried, Contents}
+use Rattle.message_layout.specs.Contents.{Signer, named, carried, Contents}
 use Rattle.message_layout.specs.WellFormed.{WellFormed}
 use Rattle.message_layout.specs.Layout.{signerOctets, fieldOctets, headerOctets, payloadOctets, trailerOctets, written, signedOctets}
 use Rattle.message_layout.specs.Fields.{signerFields, fieldsOf}
@@ -48,23 +49,53 @@ pub covered : (c : Contents) → written c ≡ signedOctets c ++ signatureOctets
 unfolding written signedOctets
 covered c = simp append-assoc
 
-pub embedded : (c : Contents) (x : certificate.Contents) → c .signer ≡ carried x → Embedded c x
-unfolding written fieldsOf fieldsAt
-embedded c x e =
+pub payload : (c : Contents) → take (fieldsOf c .payload .length) (drop (fieldsOf c .payload .start) (written c)) ≡ c .payload
+unfolding written fieldsOf
+payload c =
+    let h = vectorOctets (headerOctets c) in
+    let n = intxOctets (length (c .payload)) in
+    let start = fieldsOf c .payload .start in
+    let before : List ℕ = 2 ∷ (h ++ (1 ∷ n)) in
+    let after = vectorOctets (trailerOctets c) in
+    let size : length before ≡ start = omega (arith, length-append h (1 ∷ n)) in
+    let split : written c ≡ before ++ (c .payload ++ after) = simp append-assoc in
+    take-here (written c) start (c .payload) after (ap (drop start) split ∙ drop-at before (c .payload ++ after) start size)
+
+-- the octet of a signer's type, and what follows the signer
+abbrev signerAt : Contents → ℕ
+signerAt c = 1 + length (intxOctets (length (headerOctets c))) + 1
+
+abbrev behindSigner : Contents → List ℕ
+behindSigner c = fieldOctets c ++ (payloadOctets (c .payload) ++ vectorOctets (trailerOctets c))
+
+-- a signer stands behind its type
+signer-stands : (c : Contents) (type : ℕ) (w : List ℕ) → signerOctets (c .signer) ≡ type ∷ w → drop (signerAt c + 1) (written c) ≡ w ++ behindSigner c
+unfolding written
+signer-stands c type w signer =
     let i = intxOctets (length (headerOctets c)) in
-    let at = 1 + length i + 1 in
+    let before : List ℕ = 2 ∷ (i ++ (128 ∷ type ∷ [])) in
+    let size : length before ≡ signerAt c + 1 = omega (arith, length-append i (128 ∷ type ∷ [])) in
+    let split : written c ≡ before ++ (w ++ behindSigner c) = simp (append-assoc, signer) in
+    ap (drop (signerAt c + 1)) split ∙ drop-at before (w ++ behindSigner c) (signerAt c + 1) size
+
+pub named-id : (c : Contents) (id : List ℕ) → c .signer ≡ named id → length id ≡ 8
+    → take (fieldsOf c .headers .signer .digest .length) (drop (fieldsOf c .headers .signer .digest .start) (written c)) ≡ id
+unfolding fieldsOf
+named-id c id e l =
+    ap (λ (z : Signer). take (signerFields (signerAt c) z .digest .length) (drop (signerFields (signerAt c) z .digest .start) (written c))) e
+    ∙ rw l at (take-here (written c) (signerAt c + 1) id (behindSigner c) (signer-stands c 1 id (ap signerOctets e)))
+
+pub embedded : (c : Contents) (x : certificate.Contents) → c .signer ≡ carried x → Embedded c x
+unfolding fieldsOf fieldsAt
+embedded c x e =
+    let at = signerAt c in
     let reads : fieldsOf c .headers .signer .certificate ≡ fieldsAt (at + 1) x = ap (λ (z : Signer). (signerFields at z) .certificate) e in
     let start : fieldsOf c .headers .signer .certificate .signed .start ≡ at + 1 = ap (λ (z : Certificate). z .signed .start) reads in
-    let before : List ℕ = 2 ∷ (i ++ (128 ∷ 2 ∷ [])) in
-    let after = fieldOctets c ++ (payloadOctets (c .payload) ++ vectorOctets (trailerOctets c)) in
-    let size : length before ≡ at + 1 = omega (arith, length-append i (128 ∷ 2 ∷ [])) in
-    let signer : signerOctets (c .signer) ≡ 2 ∷ certificates.written x = ap signerOctets e in
-    let split : written c ≡ before ++ (certificates.written x ++ after) = simp (append-assoc, signer) in
     record {
-      rest = after;
-      stands = ap (λ (n : ℕ). drop n (written c)) (start ∙ sym size) ∙ ap (drop (length before)) split ∙ drop-append-seam before (certificates.written x ++ after);
+      rest = behindSigner c;
+      stands = ap (λ (n : ℕ). drop n (written c)) start ∙ signer-stands c 2 (certificates.written x) (ap signerOctets e);
       reads = reads ∙ ap (λ (n : ℕ). fieldsAt n x) (sym start);
     }
 
 pub exactness : Exactness
-exactness = record { octets = written-octets; accepted = accepted; only = only; covered = covered; embedded = embedded }
+exactness = record { octets = written-octets; accepted = accepted; only = only; covered = covered; payload = payload; named-id = named-id; embedded = embedded }

@@ -2,7 +2,7 @@
 use Prim.Native.Nat.{ℕ}
 use mathlib.Core.Path.{_≡_}
 use mathlib.Core.List.{List, _++_}
-use lib.ListN.{length, drop}
+use lib.ListN.{length, take, drop}
 use Rattle.octets.specs.Reading.{got}
 use Rattle.message.specs.Messages.{Message, wholeMessage}
 use Rattle.writing.specs.Written.{Octets}
@@ -10,7 +10,7 @@ use Rattle.layout.specs.Contents as certificate
 use Rattle.layout.specs.Layout as certificates
 use Rattle.layout.specs.Layout.{signatureOctets}
 use Rattle.layout.specs.Fields.{fieldsAt}
-use Rattle.message_layout.specs.Contents.{carried, Contents}
+use Rattle.message_layout.specs.Contents.{named, carried, Contents}
 use Rattle.message_layout.specs.WellFormed.{WellFormed}
 use Rattle.message_layout.specs.Layout.{written, signedOctets}
 use Rattle.message_layout.specs.Fields.{fieldsOf}
@@ -28,4 +28,8 @@ pub record Exactness : Type 0 where
   pub only : (s : List ℕ) → Octets s → (m : Message) (next : ℕ) → wholeMessage s ≡ got m next → (c : Contents) × WellFormed c × (s ≡ written c) × (m ≡ fieldsOf c)
   -- the signed range of `fieldsOf` is what stands before the signature
   pub covered : (c : Contents) → written c ≡ signedOctets c ++ signatureOctets (c .signature)
+  -- the payload stands where `fieldsOf` says, and so does what names the signer: the id of a certificate, or a certificate
+  pub payload : (c : Contents) → take (fieldsOf c .payload .length) (drop (fieldsOf c .payload .start) (written c)) ≡ c .payload
+  pub named-id : (c : Contents) (id : List ℕ) → c .signer ≡ named id → length id ≡ 8
+      → take (fieldsOf c .headers .signer .digest .length) (drop (fieldsOf c .headers .signer .digest .start) (written c)) ≡ id
   pub embedded : (c : Contents) (x : certificate.Contents) → c .signer ≡ carried x → Embedded c x

@@ -1,22 +1,26 @@
 -- The laws of specs/Laws.antt hold. Assumes nothing.
 use mathlib.Core.Path.{_≡_, refl, sym, ap, _∙_}
-use mathlib.Core.Logic.{_↔_}
+use mathlib.Core.Logic.{_↔_, inr}
+use mathlib.Core.Bool.{true}
 use mathlib.Core.List.{List}
 use mathlib.Core.Option.{some}
-use Prim.Native.Nat.{ℕ}
+use Prim.Native.Nat.{ℕ, _<_}
+use lib.Dec.{eqb}
 use borrow.Author.Tests.{eqb-false, ne-eqb}
 use Rattle.order.specs.Steps.{Answer, gives, refused, rows, First, run}
 use Rattle.order.specs.Steps as order
 use Rattle.order.proofs.Steps.{refuses-at}
-use Rattle.bitfields.specs.Field.{number}
+use Rattle.geo.proofs.Bools.{or-join}
+use Rattle.bitfields.specs.Field.{number, Octets}
 use Rattle.store.specs.Slots.{GONE, stateAt, withdrawnAt}
 use Rattle.store.specs.Search.{find}
 use Rattle.store.proofs.Found.{find-finds, find-only}
+use Rattle.store.proofs.Withdrawn.{withdrawn-kept}
 use Rattle.validity.proofs.Laws as validity
 use Rattle.chain.specs.Stored.{withdrawnIn}
 use Rattle.withdrawal.specs.Order.{asking, asked, drawing, withdrawnFrom, withdrawal, refusedList, listedFor, page}
 use Rattle.withdrawal.specs.Laws.{Askable, Laws}
-use Rattle.withdrawal.proofs.Asked.{Held, asked-held, held-still, asked-at}
+use Rattle.withdrawal.proofs.Asked.{Held, asked-held, held-below, held-still, asked-at}
 use Rattle.withdrawal.proofs.Fallen.{valid-of}
 use Rattle.withdrawal.proofs.Demand.{demand3}
 
@@ -85,6 +89,17 @@ withdraw-keeps : (s id : List ℕ) → ¬ (withdrawal s id .0 ≡ 0) → withdra
 unfolding withdrawal
 withdraw-keeps s id n = from-keeps s (asked s id) n
 
+-- the state that changes becomes withdrawn, and no other changes
+stays-withdrawn : (s id : List ℕ) (i : ℕ) → Octets s → i < 64 → withdrawnAt s i ≡ true → withdrawnAt (withdrawal s id .1) i ≡ true
+unfolding withdrawal
+stays-withdrawn s id i are below gone = by (asked s id) refl
+  where
+    by : (a : Answer ℕ) → asked s id ≡ a → withdrawnAt (withdrawnFrom s a .1) i ≡ true
+    by (gives c) e =
+        let h = asked-held s id c e in
+        withdrawn-kept s c are (h .long) (held-below s id c h) i below ∙ or-join (eqb i c) (withdrawnAt s i) (inr gone)
+    by (refused k) e = gone
+
 list-keeps : (s id : List ℕ) (t : ℕ) (l : List ℕ) → ¬ (page s id t l .number ≡ 0) → page s id t l ≡ refusedList (page s id t l .number) l s
 unfolding page
 list-keeps s id t l n = for-keeps s t l (run (drawing s id l)) n
@@ -101,6 +116,7 @@ laws =
       list-refused = list-refused;
       withdraw-keeps = withdraw-keeps;
       list-keeps = list-keeps;
+      stays-withdrawn = stays-withdrawn;
       list-reads = list-reads;
       demand3 = demand3;
     }

@@ -6,8 +6,8 @@ use mathlib.Core.List.{List}
 use Prim.Native.Nat.{ℕ, _<_}
 use lib.ListN.{length}
 use Rattle.order.specs.Steps.{gives, rows, First}
-use Rattle.bitfields.specs.Field.{number}
-use Rattle.store.specs.Slots.{GONE, stateAt, filledAt, idAt}
+use Rattle.bitfields.specs.Field.{number, Octets}
+use Rattle.store.specs.Slots.{GONE, stateAt, filledAt, withdrawnAt, idAt}
 use Rattle.validity.specs.Laws.{Valid}
 use Rattle.withdrawal.specs.Order.{asking, asked, drawing, withdrawal, refusedList, page}
 use Rattle.withdrawal.specs.Demand.{Demand}
@@ -30,6 +30,8 @@ pub record Laws : Type 0 where
   -- and leaves store and list as they were, with n 0
   pub withdraw-keeps : (s id : List ℕ) → ¬ (withdrawal s id .0 ≡ 0) → withdrawal s id .1 ≡ s
   pub list-keeps : (s id : List ℕ) (t : ℕ) (l : List ℕ) → ¬ (page s id t l .number ≡ 0) → page s id t l ≡ refusedList (page s id t l .number) l s
+  -- a withdrawn slot stays so for good, accepted or not; install and admit fill empty slots alone (admission, `filled-kept`)
+  pub stays-withdrawn : (s id : List ℕ) (i : ℕ) → Octets s → i < 64 → withdrawnAt s i ≡ true → withdrawnAt (withdrawal s id .1) i ≡ true
   -- list never changes the store, accepted or not
   pub list-reads : (s id : List ℕ) (t : ℕ) (l : List ℕ) → page s id t l .store ≡ s
   -- demand 3
