@@ -1,24 +1,22 @@
 ghost use mathlib.Core.Path.{_≡_};
-ghost use lib.ListN.{length, getD};
-ghost use lib.Dec.{leb};
-ghost use Rattle.octets.specs.Reading.{got, bind, need};
-ghost use Rattle.octets.specs.Vectors.{placeOf};
-ghost use Rattle.attributes.specs.Points.{pointOf};
-ghost use Rattle.attributes.specs.Assurances.{assuranceOf};
-ghost use Rattle.attributes.specs.Vector.{listType, strayOf, unknown, attributesOf, attributesIn, completeAttributes};
+ghost use Rattle.octets.specs.Reading.{refusalOf};
+ghost use Rattle.attributes.specs.Vector.{listType, strayOf, unknown};
+ghost use Rattle.attributes.specs.Outlines.{outlineOf, outlineIn, completeOutline, Listed, attributesFrom};
 use crate::assurances::Assurance;
 use crate::assurances::AssuranceRead;
 use crate::assurances::assurance_at;
 use crate::keys::encryption_key_at;
 use crate::keys::verification_key_at;
+use crate::lists::ListRead;
+use crate::lists::PermissionList;
+use crate::lists::list_at;
+use crate::lists::permissions_in;
 use crate::permissions::Permissions;
-use crate::permissions::list_at;
 use crate::permissions::no_permissions;
 use crate::points::Point;
 use crate::points::PointRead;
 use octets::refusals::MALFORMED;
 use octets::refusals::UNSUPPORTED;
-use octets::vectors::Next;
 use octets::vectors::Part;
 
 // What the attributes say. A key that is not there has type 0 and is nowhere.
@@ -29,10 +27,33 @@ pub struct Attributes {
     pub permissions: Permissions,
 }
 
-// The attributes that were read, with the position after them, or the number of the refusal.
-pub struct AttributesRead {
-    pub outcome: Next,
-    pub attributes: Attributes,
+// The attributes without the permissions, of which it says where they stand.
+pub struct AttributeOutline {
+    pub key: Point,
+    pub encryption: Point,
+    pub assurance: Assurance,
+    pub list: PermissionList,
+}
+
+// The outline that was read, with the position after the attributes, or the number of the refusal.
+pub enum AttributeOutlineRead {
+    Value {
+        outline: AttributeOutline,
+        next: usize,
+    },
+    Refused(u8),
+}
+
+impl AttributeOutlineRead {
+    // The number of a refusal; 0 of a value.
+    pub fn refusal(self) -> u8
+        ensures { λ n. ⌜ n ≡ refusalOf (outlineOf self) ⌝ }
+    {
+        match self {
+            AttributeOutlineRead::Value { outline: _, next: _ } => 0,
+            AttributeOutlineRead::Refused(n) => n,
+        }
+    }
 }
 
 // The type of the permission list of a kind.
@@ -75,64 +96,69 @@ pub fn no_attributes() -> Attributes
     }
 }
 
-// The outcome of the reads in their order, and nothing may stand after them.
-fn outcome_of(
-    s: &[u8],
-    key: PointRead,
-    encryption: PointRead,
-    assurance: AssuranceRead,
-    list: Next,
-) -> Next
-    ensures { λ r. ⌜ placeOf r ≡ bind (pointOf key) (λ k a. bind (pointOf encryption) (λ e b. bind (assuranceOf assurance) (λ v c. bind (placeOf list) (λ z d. need (strayOf (getD (now (s .entry)) d 0)) (leb (length (now (s .entry))) d) (got z d))))) ⌝ }
+// The attributes of a certificate of a kind, from a position to the end: ascending, each once.
+pub fn outline_in(s: &[u8], at: usize, kind: u8) -> AttributeOutlineRead
+    ensures { λ r. ⌜ outlineOf r ≡ outlineIn kind (now (s .entry)) at ⌝ }
 {
-    let PointRead::Value { point: _, next: _ } = key else {
-        return Next::Refused(key.refusal());
-    };
-    let PointRead::Value { point: _, next: _ } = encryption else {
-        return Next::Refused(encryption.refusal());
-    };
-    let AssuranceRead::Value {
-        assurance: _,
-        next: _,
-    } = assurance
+    let first = verification_key_at(s, at);
+    let PointRead::Value {
+        point: key,
+        next: a,
+    } = first
     else {
-        return Next::Refused(assurance.refusal());
+        return AttributeOutlineRead::Refused(first.refusal());
     };
-    let Next::At(d) = list else {
-        return Next::Refused(list.refusal());
+    let second = encryption_key_at(s, a);
+    let PointRead::Value {
+        point: encryption,
+        next: b,
+    } = second
+    else {
+        return AttributeOutlineRead::Refused(second.refusal());
+    };
+    let third = assurance_at(s, b);
+    let AssuranceRead::Value { assurance, next: c } = third else {
+        return AttributeOutlineRead::Refused(third.refusal());
+    };
+    let fourth = list_at(s, c, list_type(kind), kind == 1);
+    let ListRead::Value { list, next: d } = fourth else {
+        return AttributeOutlineRead::Refused(fourth.refusal());
     };
     if d < s.len() {
-        return Next::Refused(stray(s[d]));
+        return AttributeOutlineRead::Refused(stray(s[d]));
     }
-    Next::At(d)
-}
-
-// The attributes of a certificate of a kind, from a position to the end: ascending, each once. There is one way, so that the
-// permissions are copied once: after a refusal the rest is read at the end, where nothing stands.
-pub fn attributes_in(s: &[u8], at: usize, kind: u8) -> AttributesRead
-    ensures { λ r. ⌜ attributesOf r ≡ attributesIn kind (now (s .entry)) at ⌝ }
-{
-    let key = verification_key_at(s, at);
-    let encryption = encryption_key_at(s, key.next(s.len()));
-    let assurance = assurance_at(s, encryption.next(s.len()));
-    let list = list_at(s, assurance.next(s.len()), list_type(kind), kind == 1);
-    let outcome = list.outcome;
-    let permissions = list.permissions;
-    let attributes = Attributes {
-        key: key.point(),
-        encryption: encryption.point(),
-        assurance: assurance.assurance(),
-        permissions,
-    };
-    AttributesRead {
-        outcome: outcome_of(s, key, encryption, assurance, outcome),
-        attributes,
+    AttributeOutlineRead::Value {
+        outline: AttributeOutline {
+            key,
+            encryption,
+            assurance,
+            list,
+        },
+        next: d,
     }
 }
 
 // The verification key and the permissions are required.
-pub fn complete(a: Attributes) -> bool
-    ensures { λ r. ⌜ r ≡ completeAttributes a ⌝ }
+pub fn complete(o: AttributeOutline) -> bool
+    ensures { λ r. ⌜ r ≡ completeOutline o ⌝ }
 {
-    (a.key.kind != 0) & a.permissions.given
+    (o.key.kind != 0) & o.list.given
+}
+
+// The attributes of an outline, with their permissions.
+pub fn attributes_of(s: &[u8], o: AttributeOutline, ssp: bool) -> Attributes
+    requires { ⌜ Listed ssp (now s) (o .list) ⌝ }
+    ensures { λ r. ⌜ r ≡ attributesFrom ssp (now (s .entry)) o ⌝ }
+{
+    let key = o.key;
+    let encryption = o.encryption;
+    let assurance = o.assurance;
+    let end = o.list.end;
+    let permissions = permissions_in(&s[..end], o.list.start, ssp, o.list.given);
+    Attributes {
+        key,
+        encryption,
+        assurance,
+        permissions,
+    }
 }

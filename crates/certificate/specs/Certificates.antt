@@ -2,17 +2,13 @@
 use Prim.Native.Nat.{ℕ, _-_}
 use mathlib.Core.List.{List}
 use Rattle.octets.specs.Reading.{Out, got, bind}
-use Rattle.octets.specs.Vectors.{outOf, part, nowhere}
+use Rattle.octets.specs.Vectors.{part, nowhere}
 use Rattle.attributes.specs.Vector.{completeAttributes, unknown}
 use Rattle.restrictions.specs.Vector.{completeRestrictions, unknown as unrestricted}
 use Rattle.certificate.specs.Heads.{headAt}
 use Rattle.certificate.specs.Bodies.{attributesAt, restrictionsAt}
 use Rattle.certificate.specs.Signatures.{signatureAt}
 use Rattle.certificate.specs.declared.certificates.Certificate.{Certificate}
-use Rattle.certificate.specs.declared.certificates.CertificateRead.{CertificateRead}
-
-abbrev pub certificateOf : CertificateRead → Out Certificate
-certificateOf r = outOf (r .outcome) (r .certificate)
 
 abbrev pub certificateSteps : List ℕ → ℕ → Out Certificate
 certificateSteps s at =

@@ -1,5 +1,6 @@
 -- `message::signers::carried_at` meets its contract. Assumes nothing.
-use Rattle.message.specs.Parts.{kept, signerParts}
+use Rattle.octets.specs.Reading.{kept}
+use Rattle.message.specs.Parts.{signerParts}
 use Rattle.message.specs.Signers.{carriedAt}
 use Rattle.octets.proofs.Laws.{stop, then, wasOut}
 use borrow.Author.Needs.{needs}
