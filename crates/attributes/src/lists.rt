@@ -51,7 +51,10 @@ fn check_permissions(s: &[u8], start: usize, ssp: bool) -> Next
         }
         match permission_at(s, at, ssp) {
             PermissionRead::Refused(n) => return Next::Refused(n),
-            PermissionRead::Value { permission: _, next } => {
+            PermissionRead::Value {
+                permission: _,
+                next,
+            } => {
                 count += 1;
                 at = next;
             }

@@ -36,7 +36,10 @@ impl OutlineRead {
         ensures { λ n. ⌜ n ≡ refusalOf (outlineOf self) ⌝ }
     {
         match self {
-            OutlineRead::Value { outline: _, next: _ } => 0,
+            OutlineRead::Value {
+                outline: _,
+                next: _,
+            } => 0,
             OutlineRead::Refused(n) => n,
         }
     }

@@ -1,12 +1,13 @@
 // What the store keeps of a certificate.
 ghost use mathlib.Core.Path.{_≡_};
-ghost use mathlib.Core.List.{map};
 ghost use Prim.Native.Nat.{_+_, _≤_};
 ghost use lib.ListN.{length};
 ghost use Rattle.octets.specs.Items.{padded};
+ghost use Rattle.attributes.specs.Outlines.{itemsIn, Readable, readOf};
+ghost use Rattle.certificate.specs.Outlines.{Outlined, certificateFrom};
 ghost use Rattle.bitfields.specs.Field.{number};
-ghost use Rattle.entries.specs.Standing.{Standing, StandsAt, certificateIn};
-ghost use Rattle.entries.specs.Stored.{partOf, aidOf, idFrom, scopeFrom, recordFrom};
+ghost use Rattle.entries.specs.Stored.{partOf, idFrom, scopeFrom, recordFrom};
+ghost use Rattle.entries.specs.Outlines.{aidsPlaced};
 use attributes::permissions::PermissionRead;
 use attributes::permissions::permission_at;
 use bitfields::reading::window;
@@ -41,8 +42,10 @@ fn in_thirty_two(octets: &[u8]) -> [u8; 32]
     out
 }
 
-// The ITS-AIDs of the permissions from a position to the end, of which there are at most sixteen. An SSP is not kept.
+// The ITS-AIDs of the permissions from a position to the end, which were checked.
 fn aids_in(s: &[u8], start: usize, ssp: bool) -> Permissions
+    requires { ⌜ Readable ssp (now s) start ⌝ }
+    ensures { λ r. ⌜ r ≡ aidsPlaced (readOf (itemsIn ssp (now (s .entry)) start)) ⌝ }
 {
     let mut values = [0u32; 16];
     let mut count = 0;
@@ -62,6 +65,8 @@ fn aids_in(s: &[u8], start: usize, ssp: bool) -> Permissions
 
 // What a certificate allows.
 fn scope_from(s: &[u8], o: Outline) -> Scope
+    requires { ⌜ Outlined (now s) o ⌝ }
+    ensures { λ r. ⌜ r ≡ scopeFrom (certificateFrom (now (s .entry)) o) ⌝ }
 {
     let restrictions = restrictions_of(s, o.restrictions);
     let region = restrictions.area.region;
@@ -98,8 +103,8 @@ fn octets_of(s: &[u8], part: Part) -> [u8; 32]
 
 // The id of a certificate: hashed from its own octets, with the signature's point type taken as 0.
 fn id_from(s: &[u8], o: Outline) -> [u8; 8]
-    requires { ⌜ c .signed .start + c .signed .length + 66 ≤ length (now s) ⌝ }
-    ensures { λ r. ⌜ r ≡ idFrom (now (s .entry)) c ⌝ }
+    requires { ⌜ o .signed .start + o .signed .length + 66 ≤ length (now s) ⌝ }
+    ensures { λ r. ⌜ r ≡ idFrom (now (s .entry)) (certificateFrom (now (s .entry)) o) ⌝ }
 {
     let start = o.signed.start;
     let length = o.signed.length;
@@ -107,10 +112,10 @@ fn id_from(s: &[u8], o: Outline) -> [u8; 8]
     short_digest_with_zero_at(&s[start..end], length + 1)
 }
 
-// The record of a certificate that stands in s.
+// The record of a certificate whose outline was read in s.
 pub fn record_from(s: &[u8], o: Outline) -> Record
-    requires { ⌜ Standing (now s) c ⌝ }
-    ensures { λ r. ⌜ r ≡ recordFrom (now (s .entry)) c ⌝ }
+    requires { ⌜ Outlined (now s) o ⌝ }
+    ensures { λ r. ⌜ r ≡ recordFrom (now (s .entry)) (certificateFrom (now (s .entry)) o) ⌝ }
 {
     let id = id_from(s, o);
     let issuer = issuer_of(s, o.head.signer.digest);
