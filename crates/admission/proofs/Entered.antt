@@ -65,7 +65,7 @@ module _ (anchor : Bool) (store : List ℕ) (r : Record) (verdict : ℕ) where
 -- ---- reading
 
 -- no refusal has the number 0
-unread-positive : (s : List ℕ) (n : ℕ) → whole s ≡ unread n → ¬ (n ≡ 0)
+pub unread-positive : (s : List ℕ) (n : ℕ) → whole s ≡ unread n → ¬ (n ≡ 0)
 unread-positive s n e z = let f = subst (λ (o : Out Certificate). Forward 0 o) e (whole-forward s) in omega (arith, f .0)
 
 pub read-stops : (s : List ℕ) → ¬ (readingOf s .number ≡ 0) → answered (whole s) ≡ refused (readingOf s .number)

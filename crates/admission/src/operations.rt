@@ -7,7 +7,8 @@ ghost use Rattle.bitfields.specs.Field.{number};
 ghost use Rattle.admission.specs.Order.{wanted, absent, issuerRefusal, testNumber, placed, entered, installed, admitted};
 ghost use Rattle.store.specs.Search.{find};
 use crate::issuers::issuer_number;
-use certificate::operations::read;
+use certificate::operations::whole_outline;
+use certificate::outlines::OutlineRead;
 use entries::as_number;
 use entries::record_from;
 use octets::refusals::ACCEPTED;
@@ -105,16 +106,14 @@ fn enter(store: &mut [u8], octets: &[u8], verdict: u8, anchor: bool) -> u8
     if !valid(store) {
         return BAD_STORE;
     }
-    let reading = read(octets);
-    let number = reading.number;
-    if number != ACCEPTED {
-        return number;
-    }
-    let certificate = reading.certificate;
-    if !takes(anchor, certificate.head.kind) {
+    let read = whole_outline(octets);
+    let OutlineRead::Value { outline, next: _ } = read else {
+        return read.refusal();
+    };
+    if !takes(anchor, outline.head.kind) {
         return WRONG_KIND;
     }
-    let r = record_from(octets, certificate);
+    let r = record_from(octets, outline);
     place(store, r, verdict, anchor)
 }
 

@@ -1,20 +1,19 @@
 ghost use mathlib.Core.Path.{_≡_};
-ghost use Rattle.octets.specs.Reading.{refused};
-ghost use Rattle.attributes.specs.Vector.{unknown};
-ghost use Rattle.certificate.specs.Certificates.{blank, certificateOf, certificateAt};
-use crate::bodies::attributes_at;
+ghost use mathlib.Core.Bool.{true};
+ghost use Prim.Native.Nat.{ℕ};
+ghost use Rattle.octets.specs.Reading.{got};
+ghost use Rattle.restrictions.specs.declared.vector.Restrictions.{Restrictions};
+ghost use Rattle.certificate.specs.Bodies.{restrictionsAt};
+ghost use Rattle.certificate.specs.Certificates.{blank};
+ghost use Rattle.certificate.specs.Outlines.{Outlined, certificateFrom};
 use crate::bodies::restrictions_at;
 use crate::heads::Head;
-use crate::heads::HeadRead;
 use crate::heads::Signer;
-use crate::heads::head_at;
+use crate::outlines::Outline;
 use crate::signatures::Signature;
-use crate::signatures::SignatureRead;
-use crate::signatures::signature_at;
 use attributes::vector::Attributes;
-use attributes::vector::complete;
+use attributes::vector::attributes_of;
 use attributes::vector::no_attributes;
-use octets::vectors::Next;
 use octets::vectors::Part;
 use restrictions::vector::Restrictions;
 use restrictions::vector::no_restrictions;
@@ -28,15 +27,9 @@ pub struct Certificate {
     pub signature: Signature,
 }
 
-// The certificate that was read, with the position after it, or the number of the refusal.
-pub struct CertificateRead {
-    pub outcome: Next,
-    pub certificate: Certificate,
-}
-
-// These attributes, and zero for all other values.
-fn nothing_but(attributes: Attributes) -> Certificate
-    ensures { λ r. ⌜ (attributes ≡ unknown → r ≡ blank) ⌝ }
+// The certificate of a refusal: all values are zero.
+pub fn no_certificate() -> Certificate
+    ensures { λ r. ⌜ r ≡ blank ⌝ }
 {
     let nowhere = Part {
         start: 0,
@@ -51,7 +44,7 @@ fn nothing_but(attributes: Attributes) -> Certificate
             kind: 0,
             name: nowhere,
         },
-        attributes,
+        attributes: no_attributes(),
         restrictions: no_restrictions(),
         signed: nowhere,
         signature: Signature {
@@ -61,59 +54,30 @@ fn nothing_but(attributes: Attributes) -> Certificate
     }
 }
 
-// The certificate of a refusal: all values are zero.
-pub fn no_certificate() -> Certificate
-    ensures { λ r. ⌜ r ≡ blank ⌝ }
+// The restrictions whose vector stands at a position.
+pub fn restrictions_of(s: &[u8], at: usize) -> Restrictions
+    ensures { λ r. ⌜ ((x : Restrictions) (next : ℕ) → restrictionsAt true (now (s .entry)) at ≡ got x next → r ≡ x) ⌝ }
 {
-    nothing_but(no_attributes())
+    let read = restrictions_at(s, at, true);
+    let restrictions = read.restrictions;
+    restrictions
 }
 
-// A refusal. It takes the attributes that are there, so that none are made for it.
-fn stopped(n: u8, attributes: Attributes) -> CertificateRead
-    ensures { λ r. ⌜ certificateOf r ≡ refused n ⌝ }
+// The certificate of an outline, with its permissions and its restrictions.
+pub fn certificate_of(s: &[u8], o: Outline) -> Certificate
+    requires { ⌜ Outlined (now s) o ⌝ }
+    ensures { λ r. ⌜ r ≡ certificateFrom (now (s .entry)) o ⌝ }
 {
-    CertificateRead {
-        outcome: Next::Refused(n),
-        certificate: nothing_but(attributes),
-    }
-}
-
-// The certificate that stands at a position of a container, up to its signature. After a head that was refused, attributes are
-// looked for at the end, where there are none.
-pub fn certificate_at(s: &[u8], at: usize) -> CertificateRead
-    ensures { λ r. ⌜ certificateOf r ≡ certificateAt (now (s .entry)) at ⌝ }
-{
-    let first = head_at(s, at);
-    let second = attributes_at(s, first.next(s.len()), first.kind());
-    let attributes = second.attributes;
-    let HeadRead::Value { head, next: _ } = first else {
-        return stopped(first.refusal(), attributes);
-    };
-    let outcome = second.outcome;
-    let Next::At(b) = outcome else {
-        return stopped(outcome.refusal(), attributes);
-    };
-    let third = restrictions_at(s, b, complete(attributes));
-    let outcome = third.outcome;
-    let Next::At(c) = outcome else {
-        return stopped(outcome.refusal(), attributes);
-    };
-    let restrictions = third.restrictions;
-    let fourth = signature_at(s, c, restrictions.period.given);
-    let SignatureRead::Value { signature, next } = fourth else {
-        return stopped(fourth.refusal(), attributes);
-    };
-    CertificateRead {
-        outcome: Next::At(next),
-        certificate: Certificate {
-            head,
-            attributes,
-            restrictions,
-            signed: Part {
-                start: at,
-                length: c - at,
-            },
-            signature,
-        },
+    let head = o.head;
+    let attributes = attributes_of(s, o.attributes, o.head.kind == 1);
+    let restrictions = restrictions_of(s, o.restrictions);
+    let signed = o.signed;
+    let signature = o.signature;
+    Certificate {
+        head,
+        attributes,
+        restrictions,
+        signed,
+        signature,
     }
 }

@@ -1,16 +1,18 @@
 // What the store keeps of a certificate.
 ghost use mathlib.Core.Path.{_≡_};
-ghost use mathlib.Core.List.{map};
 ghost use Prim.Native.Nat.{_+_, _≤_};
 ghost use lib.ListN.{length};
 ghost use Rattle.octets.specs.Items.{padded};
+ghost use Rattle.attributes.specs.Outlines.{itemsIn, Readable, readOf};
+ghost use Rattle.certificate.specs.Outlines.{Outlined, certificateFrom};
 ghost use Rattle.bitfields.specs.Field.{number};
-ghost use Rattle.entries.specs.Standing.{Standing, StandsAt, certificateIn};
-ghost use Rattle.entries.specs.Stored.{partOf, aidOf, idFrom, scopeFrom, recordFrom};
-use attributes::permissions::Permission;
+ghost use Rattle.entries.specs.Stored.{partOf, idFrom, scopeFrom, recordFrom};
+ghost use Rattle.entries.specs.Outlines.{aidsPlaced};
+use attributes::permissions::PermissionRead;
+use attributes::permissions::permission_at;
 use bitfields::reading::window;
-use certificate::certificates::Certificate;
-use certificate::certificates::certificate_at;
+use certificate::certificates::restrictions_of;
+use certificate::outlines::Outline;
 use octets::buffers::write_front;
 use octets::vectors::Part;
 use records::Key;
@@ -40,36 +42,42 @@ fn in_thirty_two(octets: &[u8]) -> [u8; 32]
     out
 }
 
-// The ITS-AIDs of permissions.
-fn aids(values: [Permission; 16]) -> [u32; 16]
-    ensures { λ r. ⌜ r ≡ map aidOf values ⌝ }
+// The ITS-AIDs of the permissions from a position to the end, which were checked.
+fn aids_in(s: &[u8], start: usize, ssp: bool) -> Permissions
+    requires { ⌜ Readable ssp (now s) start ⌝ }
+    ensures { λ r. ⌜ r ≡ aidsPlaced (readOf (itemsIn ssp (now (s .entry)) start)) ⌝ }
 {
-    let mut out = [0u32; 16];
-    let mut i = 0;
-    while i < 16 {
-        let p = values[i];
-        out[i] = p.aid;
-        i += 1;
+    let mut values = [0u32; 16];
+    let mut count = 0;
+    let mut at = start;
+    while at < s.len() {
+        match permission_at(s, at, ssp) {
+            PermissionRead::Refused(_) => break,
+            PermissionRead::Value { permission, next } => {
+                values[count] = permission.aid;
+                count += 1;
+                at = next;
+            }
+        }
     }
-    out
+    Permissions { count, values }
 }
 
 // What a certificate allows.
-fn scope_from(c: Certificate) -> Scope
-    ensures { λ r. ⌜ r ≡ scopeFrom c ⌝ }
+fn scope_from(s: &[u8], o: Outline) -> Scope
+    requires { ⌜ Outlined (now s) o ⌝ }
+    ensures { λ r. ⌜ r ≡ scopeFrom (certificateFrom (now (s .entry)) o) ⌝ }
 {
-    let listed = c.attributes.permissions.values;
-    let values = aids(listed);
-    let region = c.restrictions.area.region;
+    let restrictions = restrictions_of(s, o.restrictions);
+    let region = restrictions.area.region;
+    let end = o.attributes.list.end;
+    let permissions = aids_in(&s[..end], o.attributes.list.start, o.head.kind == 1);
     Scope {
-        kind: c.head.kind,
-        start: c.restrictions.period.start,
-        end: c.restrictions.period.end,
+        kind: o.head.kind,
+        start: restrictions.period.start,
+        end: restrictions.period.end,
         region,
-        permissions: Permissions {
-            count: c.attributes.permissions.count,
-            values,
-        },
+        permissions,
     }
 }
 
@@ -94,50 +102,40 @@ fn octets_of(s: &[u8], part: Part) -> [u8; 32]
 }
 
 // The id of a certificate: hashed from its own octets, with the signature's point type taken as 0.
-fn id_from(s: &[u8], c: Certificate) -> [u8; 8]
-    requires { ⌜ c .signed .start + c .signed .length + 66 ≤ length (now s) ⌝ }
-    ensures { λ r. ⌜ r ≡ idFrom (now (s .entry)) c ⌝ }
+fn id_from(s: &[u8], o: Outline) -> [u8; 8]
+    requires { ⌜ o .signed .start + o .signed .length + 66 ≤ length (now s) ⌝ }
+    ensures { λ r. ⌜ r ≡ idFrom (now (s .entry)) (certificateFrom (now (s .entry)) o) ⌝ }
 {
-    let start = c.signed.start;
-    let length = c.signed.length;
+    let start = o.signed.start;
+    let length = o.signed.length;
     let end = start + length + 66;
     short_digest_with_zero_at(&s[start..end], length + 1)
 }
 
-// The record of a certificate that stands in s.
-pub fn record_from(s: &[u8], c: Certificate) -> Record
-    requires { ⌜ Standing (now s) c ⌝ }
-    ensures { λ r. ⌜ r ≡ recordFrom (now (s .entry)) c ⌝ }
+// The record of a certificate whose outline was read in s.
+pub fn record_from(s: &[u8], o: Outline) -> Record
+    requires { ⌜ Outlined (now s) o ⌝ }
+    ensures { λ r. ⌜ r ≡ recordFrom (now (s .entry)) (certificateFrom (now (s .entry)) o) ⌝ }
 {
-    let id = id_from(s, c);
-    let issuer = issuer_of(s, c.head.signer.digest);
-    let scope = scope_from(c);
-    let name = octets_of(s, c.head.name);
-    let key = octets_of(s, c.attributes.key.octets);
+    let id = id_from(s, o);
+    let issuer = issuer_of(s, o.head.signer.digest);
+    let scope = scope_from(s, o);
+    let name = octets_of(s, o.head.name);
+    let key = octets_of(s, o.attributes.key.octets);
     Record {
         id,
         issuer,
         state: 1,
         scope,
         name: Name {
-            length: c.head.name.length,
+            length: o.head.name.length,
             octets: name,
         },
         key: Key {
-            parity: c.attributes.key.kind - 2,
+            parity: o.attributes.key.kind - 2,
             octets: key,
         },
     }
-}
-
-// The record of the certificate that stands at an octet of s.
-pub fn record_at(s: &[u8], at: usize) -> Record
-    requires { ⌜ StandsAt (now s) at ⌝ }
-    ensures { λ r. ⌜ r ≡ recordFrom (now (s .entry)) (certificateIn (now (s .entry)) at) ⌝ }
-{
-    let read = certificate_at(s, at);
-    let certificate = read.certificate;
-    record_from(s, certificate)
 }
 
 // An id as one number.

@@ -20,11 +20,6 @@ use Rattle.message.specs.declared.messages.MessageParts.{MessageParts}
 use Rattle.message.specs.declared.messages.MessageRead.{MessageRead}
 use Rattle.message.specs.declared.messages.MessageRead.the-variants as message
 
--- a value that was read, and what is kept of it
-abbrev pub kept : {A B : Type 0} → (A → B) → Out A → Out B
-kept f (got a next) = got (f a) next
-kept f (refused n) = refused n
-
 abbrev pub signerParts : Signer → SignerParts
 signerParts g =
     record { kind = g .kind; digest = g .digest; signed = g .certificate .signed; signature = g .certificate .signature .octets }

@@ -1,7 +1,7 @@
 ghost use mathlib.Core.Path.{_≡_};
-ghost use Rattle.octets.specs.Reading.{refusalOf};
+ghost use Rattle.octets.specs.Reading.{refusalOf, kept};
 ghost use Rattle.message.specs.Messages.{wholeMessage};
-ghost use Rattle.message.specs.Parts.{kept, messageOf, messageParts, noParts};
+ghost use Rattle.message.specs.Parts.{messageOf, messageParts, noParts};
 use crate::bodies::payload_at;
 use crate::bodies::trailer_at;
 use crate::signers::SignerParts;

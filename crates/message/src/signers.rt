@@ -1,13 +1,13 @@
 ghost use mathlib.Core.Path.{_≡_};
-ghost use Rattle.octets.specs.Reading.{refusalOf};
+ghost use Rattle.octets.specs.Reading.{refusalOf, kept};
 ghost use Rattle.message.specs.Signers.{namedAt, carriedAt, signerInfoAt, signerAt};
-ghost use Rattle.message.specs.Parts.{kept, signerOf, signerParts};
-use certificate::certificates::certificate_at;
+ghost use Rattle.message.specs.Parts.{signerOf, signerParts};
+use certificate::outlines::OutlineRead;
+use certificate::outlines::outline_at;
 use headers::fields::stray;
 use octets::numbers::Octet;
 use octets::numbers::octet_at;
 use octets::refusals::UNSUPPORTED;
-use octets::vectors::Next;
 use octets::vectors::Part;
 use octets::vectors::Span;
 use octets::vectors::run_at;
@@ -65,26 +65,23 @@ fn named_at(s: &[u8], at: usize) -> SignerRead
 fn carried_at(s: &[u8], at: usize) -> SignerRead
     ensures { λ r. ⌜ signerOf r ≡ kept signerParts (carriedAt (now (s .entry)) at) ⌝ }
 {
-    let read = certificate_at(s, at);
-    let outcome = read.outcome;
-    match outcome {
-        Next::Refused(n) => SignerRead::Refused(n),
-        Next::At(end) => {
-            let signed = read.certificate.signed;
-            let signature = read.certificate.signature.octets;
-            SignerRead::Value {
-                signer: SignerParts {
-                    kind: 2,
-                    digest: Part {
-                        start: 0,
-                        length: 0,
-                    },
-                    signed,
-                    signature,
-                },
-                next: end,
-            }
-        }
+    let read = outline_at(s, at);
+    let OutlineRead::Value { outline, next } = read else {
+        return SignerRead::Refused(read.refusal());
+    };
+    let signed = outline.signed;
+    let signature = outline.signature.octets;
+    SignerRead::Value {
+        signer: SignerParts {
+            kind: 2,
+            digest: Part {
+                start: 0,
+                length: 0,
+            },
+            signed,
+            signature,
+        },
+        next,
     }
 }
 

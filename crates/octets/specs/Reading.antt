@@ -27,3 +27,8 @@ need n false o = refused n
 abbrev pub refusalOf : {A : Type 0} → Out A → ℕ
 refusalOf (got a next) = 0
 refusalOf (refused n) = n
+
+-- a value that was read, and what is kept of it or made of it
+abbrev pub kept : {A B : Type 0} → (A → B) → Out A → Out B
+kept f (got a next) = got (f a) next
+kept f (refused n) = refused n

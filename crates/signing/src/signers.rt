@@ -12,9 +12,11 @@ use bitfields::arrays::get_octets8;
 use bitfields::arrays::get_octets32;
 use bitfields::reading::get8;
 use bitfields::reading::window;
+use certificate::outlines::OutlineRead;
+use certificate::outlines::outline_at;
 use chain::subjects::Position;
 use entries::as_number;
-use entries::record_at;
+use entries::record_from;
 use headers::fields::Fields;
 use octets::refusals::ACCEPTED;
 use octets::refusals::UNKNOWN;
@@ -150,7 +152,11 @@ pub fn carried_signer(
     requires { ⌜ (length (now store) ≡ 13568) × StandsAt (now octets) at ⌝ }
     ensures { λ r. ⌜ r ≡ carriedSigner (now (store .entry)) (now (octets .entry)) (certificateIn (now (octets .entry)) at) fields own ⌝ }
 {
-    let r = record_at(octets, at);
+    let read = outline_at(octets, at);
+    let OutlineRead::Value { outline, next: _ } = read else {
+        return refused(read.refusal());
+    };
+    let r = record_from(octets, outline);
     let copy = copy_number(store, r);
     if copy != ACCEPTED {
         return refused(copy);

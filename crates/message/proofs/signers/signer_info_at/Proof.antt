@@ -1,5 +1,6 @@
 -- `message::signers::signer_info_at` meets its contract. Assumes nothing.
-use Rattle.message.specs.Parts.{kept, signerParts}
+use Rattle.octets.specs.Reading.{kept}
+use Rattle.message.specs.Parts.{signerParts}
 use Rattle.message.specs.Signers.{signerInfoAt}
 use Rattle.octets.proofs.Laws.{chosen, fail, pass, passed, stop, then, was}
 use Rattle.octets.specs.Numbers.{octetOf}

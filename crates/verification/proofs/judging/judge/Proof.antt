@@ -15,7 +15,7 @@ use Rattle.message.specs.Messages.{Message, wholeMessage}
 use Rattle.message.specs.Parts.{messageOf, messageParts}
 use Rattle.message.specs.declared.messages.MessageParts.{MessageParts}
 use Rattle.message.specs.declared.messages.MessageRead.{MessageRead}
-use Rattle.message.proofs.Kept.{kept-got, kept-refused}
+use Rattle.octets.proofs.Kept.{kept-got, kept-refused}
 use Rattle.validity.specs.Valid.{validStore}
 use Rattle.signing.specs.Places.{inRange}
 use Rattle.signing.specs.Times.{inTime}
