@@ -7,7 +7,7 @@ use native.Mathlib.Omega.{arith}
 use lib.ListN.{length, getD, take}
 use lib.Seq.{take-take, length-take-le}
 use lib.Dec.{leb, eqb}
-use Rattle.octets.specs.Reading.{Out, got, refused, bind, need, pick, kept}
+use Rattle.octets.specs.Reading.{Out, got, refused, bind, pick, kept}
 use Rattle.octets.specs.Numbers.{intxAt}
 use Rattle.octets.specs.Vectors.{spanAt}
 use Rattle.octets.specs.Elements.{announces}

@@ -6,7 +6,7 @@ use Prim.Native.Nat.{ℕ, _-_}
 use lib.ListN.{length, take}
 use lib.Dec.{leb, eqb}
 use Rattle.octets.specs.Refusals.{TOO-LONG, MALFORMED}
-use Rattle.octets.specs.Reading.{Out, got, bind, need, kept}
+use Rattle.octets.specs.Reading.{got, kept}
 use Rattle.octets.specs.Vectors.{spanAt, part}
 use Rattle.octets.proofs.Laws.{then, need-got, bind-got}
 use Rattle.octets.proofs.Kept.{kept-bind, kept-then, kept-need}

@@ -45,7 +45,7 @@ impl OutlineRead {
     }
 }
 
-// The certificate that stands at a position of a container, up to its signature.
+// The certificate that stands at a position of a container, ending with its signature.
 pub fn outline_at(s: &[u8], at: usize) -> OutlineRead
     ensures { λ r. ⌜ outlineOf r ≡ outlineAt (now (s .entry)) at ⌝ }
 {

@@ -1,5 +1,5 @@
 -- The invariant is `Reading`; what can be read has room and is not refused. Assumes nothing.
-use Prim.Native.Nat.{ℕ, _-_}
+use Prim.Native.Nat.{_-_}
 use Rattle.attributes.specs.Permissions.{unused, permissionOf, permissionAt}
 use Rattle.attributes.specs.Outlines.{readOf, placed}
 use Rattle.attributes.specs.declared.permissions.Permission.{Permission}
