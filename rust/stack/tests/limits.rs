@@ -1,19 +1,12 @@
-//! What the program prints stays within limits.
+//! No operation takes more stack than the smallest roadside unit has.
 
 use std::process::Command;
 
-/// How many octets of stack an operation may take. The budget is 4 KiB (document
-/// 02, request 3); where it is not met yet the limit keeps what was reached.
-const LIMITS: [(&str, usize); 9] = [
-    ("read", 4_096),
-    ("id", 4_096),
-    ("install", 4_096),
-    ("admit", 4_096),
-    ("list", 4_096),
-    ("withdraw", 4_096),
-    ("prepare", 6_500),
-    ("decide", 6_500),
-    ("page", 4_096),
+/// 4 KiB (document 02, request 3).
+const BUDGET: usize = 4_096;
+
+const OPERATIONS: [&str; 9] = [
+    "read", "id", "install", "admit", "list", "withdraw", "prepare", "decide", "page",
 ];
 
 fn printed() -> String {
@@ -34,22 +27,15 @@ fn most(text: &str, operation: &str) -> usize {
     octets.max().expect("a row of each operation")
 }
 
-/// The program's line on the budget fits its table.
+/// The program's own frames count too, and without optimisation they are larger.
 #[test]
-fn operations_stay_within_them() {
+#[cfg_attr(debug_assertions, ignore = "measured with --release")]
+fn operations_stay_within_the_budget() {
     let text = printed();
-    let lines = text.lines().filter(|line| line.contains(", under 4,096: "));
-    let mut expected = Vec::new();
-    for (operation, limit) in LIMITS {
+    for operation in OPERATIONS {
         let octets = most(&text, operation);
-        assert!(
-            octets < limit,
-            "{operation}: {octets}, and not under {limit}"
-        );
-        let within = if octets < 4_096 { "yes" } else { "no" };
-        expected.push(format!(
-            "{operation}: {octets} octets, under 4,096: {within}"
-        ));
+        assert!(octets < BUDGET, "{operation}: {octets} octets");
+        let line = format!("{operation}: {octets} octets, under 4,096: yes");
+        assert!(text.lines().any(|found| found == line), "{line}");
     }
-    assert_eq!(lines.collect::<Vec<&str>>(), expected);
 }
