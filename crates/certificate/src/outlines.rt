@@ -15,7 +15,8 @@ use attributes::vector::complete;
 use octets::vectors::Next;
 use octets::vectors::Part;
 
-// What a certificate says, without what an array holds: of the permissions and of the restrictions it says where they stand.
+// What a certificate says, without what an array holds: of the permissions it says where they stand, and of the restrictions where
+// their vector does.
 pub struct Outline {
     pub head: Head,
     pub attributes: AttributeOutline,
