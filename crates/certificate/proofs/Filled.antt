@@ -6,7 +6,7 @@ use Prim.Native.Nat.{ℕ, _-_}
 use lib.ListN.{length, take}
 use lib.Dec.{leb, eqb}
 use Rattle.octets.specs.Refusals.{TOO-LONG, MALFORMED}
-use Rattle.octets.specs.Reading.{got, kept}
+use Rattle.octets.specs.Reading.{got, valueOr, kept}
 use Rattle.octets.specs.Vectors.{spanAt, part}
 use Rattle.octets.proofs.Laws.{then, need-got, bind-got}
 use Rattle.octets.proofs.Kept.{kept-bind, kept-then, kept-need}
@@ -16,14 +16,14 @@ use Rattle.attributes.specs.declared.permissions.Permissions.{Permissions}
 use Rattle.attributes.specs.declared.vector.Attributes.{Attributes}
 use Rattle.attributes.specs.declared.vector.AttributeOutline.{AttributeOutline}
 use Rattle.attributes.proofs.Filled.{attributes-filled, outline-stands, widened, same-permissions}
-use Rattle.restrictions.specs.Vector.{completeRestrictions}
+use Rattle.restrictions.specs.Vector.{completeRestrictions, unknown}
 use Rattle.restrictions.specs.declared.vector.Restrictions.{Restrictions}
 use Rattle.certificate.specs.Heads.{headAt}
 use Rattle.certificate.specs.Bodies.{attributesAt, restrictionsAt}
 use Rattle.certificate.specs.Signatures.{signatureAt}
 use Rattle.certificate.specs.Certificates.{certificateAt}
 use Rattle.certificate.specs.Operations.{whole}
-use Rattle.certificate.specs.Outlines.{attributeOutlineAt, outlineAt, wholeOutline, readOf, restrictionsFrom, certificateFrom, Outlined}
+use Rattle.certificate.specs.Outlines.{attributeOutlineAt, outlineAt, wholeOutline, restrictionsFrom, certificateFrom, Outlined}
 use Rattle.certificate.specs.declared.outlines.Outline.{Outline}
 use Rattle.certificate.proofs.Inside.{after-got}
 
@@ -60,7 +60,7 @@ module _ (s : List ℕ) where
       kept-bind f (restrictionsAt (completeOutline attributes) s b) _ _ (λ restrictions c r.
       kept-bind f (signatureAt (completeRestrictions restrictions) s c) _ _ (λ signature end e.
       ap (λ (x : Restrictions). got (record { head = head; attributes = attributesFrom (eqb (head .kind) 1) s attributes; restrictions = x; signed = part at (c - at); signature = signature }) end)
-      (ap readOf (sym (restrictions-alone (completeOutline attributes) s b restrictions c r)))))))
+      (ap (valueOr unknown) (sym (restrictions-alone (completeOutline attributes) s b restrictions c r)))))))
 
   pub whole-filled : whole s ≡ kept (certificateFrom s) (wholeOutline s)
   unfolding whole wholeOutline
@@ -83,8 +83,8 @@ module _ (s : List ℕ) (o : Outline) (h : Outlined s o) where
       let t = bind-got (signatureAt (completeRestrictions (r .0)) s (r .1)) _ (r .3) in
       let x : _≡_ {A = Outline} (record { head = p .0; attributes = q .0; restrictions = q .1; signed = part (h .at) (r .1 - h .at); signature = t .0 }) o = cc (t .3) in
       let a = restrictions-alone (completeOutline (q .0)) s (q .1) (r .0) (r .1) (r .2) in
-      subst (λ (y : Outline). (y .signed .start ≡ h .at) × Listed (eqb (y .head .kind) 1) s (y .attributes .list) × ((n : ℕ) × (restrictionsAt true s (y .restrictions) ≡ got (readOf (restrictionsAt true s (y .restrictions))) n))) x
-      (refl, attributes-stand (p .0 .kind) s (p .1) (q .0) (q .1) (q .2), (r .1, a ∙ ap (λ (z : Restrictions). got z (r .1)) (sym (ap readOf a))))
+      subst (λ (y : Outline). (y .signed .start ≡ h .at) × Listed (eqb (y .head .kind) 1) s (y .attributes .list) × ((n : ℕ) × (restrictionsAt true s (y .restrictions) ≡ got (valueOr unknown (restrictionsAt true s (y .restrictions))) n))) x
+      (refl, attributes-stand (p .0 .kind) s (p .1) (q .0) (q .1) (q .2), (r .1, a ∙ ap (λ (z : Restrictions). got z (r .1)) (sym (ap (valueOr unknown) a))))
 
 pub wholly-outlined : (s : List ℕ) (o : Outline) (next : ℕ) → wholeOutline s ≡ got o next → Outlined s o
 unfolding wholeOutline

@@ -7,7 +7,7 @@ use mathlib.Core.List.{List}
 use lib.ListN.{length, take}
 use lib.Dec.{leb, eqb}
 use Rattle.octets.specs.Refusals.{TOO-LONG, MALFORMED}
-use Rattle.octets.specs.Reading.{Out, got, refused, bind, need}
+use Rattle.octets.specs.Reading.{Out, got, refused, bind, need, valueOr}
 use Rattle.octets.specs.Vectors.{spanAt, part}
 use Rattle.attributes.specs.Outlines.{outlineIn, completeOutline, attributesFrom}
 use Rattle.attributes.specs.declared.vector.AttributeOutline.{AttributeOutline}
@@ -60,14 +60,9 @@ wholeOutlineSteps s =
 unfoldable pub wholeOutline : List ℕ → Out Outline
 wholeOutline s = wholeOutlineSteps s
 
--- restrictions that were read; none of a refusal
-abbrev pub readOf : Out Restrictions → Restrictions
-readOf (got restrictions next) = restrictions
-readOf (refused n) = unknown
-
 -- the restrictions whose vector stands at a position
 unfoldable pub restrictionsFrom : List ℕ → ℕ → Restrictions
-restrictionsFrom s at = readOf (restrictionsAt true s at)
+restrictionsFrom s at = valueOr unknown (restrictionsAt true s at)
 
 -- the certificate of an outline that was read in s
 abbrev pub certificateFrom : List ℕ → Outline → Certificate

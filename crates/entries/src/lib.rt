@@ -1,9 +1,11 @@
 // What the store keeps of a certificate.
 ghost use mathlib.Core.Path.{_≡_};
+ghost use mathlib.Core.List.{[]};
 ghost use Prim.Native.Nat.{_+_, _≤_};
 ghost use lib.ListN.{length};
 ghost use Rattle.octets.specs.Items.{padded};
-ghost use Rattle.attributes.specs.Outlines.{itemsIn, Readable, readOf};
+ghost use Rattle.octets.specs.Reading.{valueOr};
+ghost use Rattle.attributes.specs.Outlines.{itemsIn, Readable};
 ghost use Rattle.certificate.specs.Outlines.{Outlined, certificateFrom};
 ghost use Rattle.bitfields.specs.Field.{number};
 ghost use Rattle.entries.specs.Stored.{partOf, idFrom, scopeFrom, recordFrom};
@@ -42,10 +44,10 @@ fn in_thirty_two(octets: &[u8]) -> [u8; 32]
     out
 }
 
-// The ITS-AIDs of the permissions from a position to the end, which were checked.
+// The ITS-AIDs of the permissions from a position to the end. They were checked, so none is refused and each has room.
 fn aids_in(s: &[u8], start: usize, ssp: bool) -> Permissions
     requires { ⌜ Readable ssp (now s) start ⌝ }
-    ensures { λ r. ⌜ r ≡ aidsPlaced (readOf (itemsIn ssp (now (s .entry)) start)) ⌝ }
+    ensures { λ r. ⌜ r ≡ aidsPlaced (valueOr [] (itemsIn ssp (now (s .entry)) start)) ⌝ }
 {
     let mut values = [0u32; 16];
     let mut count = 0;
