@@ -87,25 +87,25 @@ fn packages_and_removes() {
         "--destdir",
         &folder,
         "--prefix",
-        "/opt/road",
+        "/srv/road",
         "--libdir",
         "lib64",
         "--includedir",
-        "/opt/include/",
+        "/srv/include/",
     ];
     installed(&words);
     let names = [
-        "opt/include/nattveldi.h",
-        "opt/road/lib64/libnattveldi_c.a",
-        "opt/road/lib64/pkgconfig/nattveldi.pc",
+        "srv/include/nattveldi.h",
+        "srv/road/lib64/libnattveldi_c.a",
+        "srv/road/lib64/pkgconfig/nattveldi.pc",
     ];
     let expected = names.map(|name| place.join(name));
     assert_eq!(files(&place), expected);
     let text = String::from_utf8(octets(&expected[2])).expect("text");
-    let variables = "prefix=/opt/road\nlibdir=/opt/road/lib64\nincludedir=/opt/include\n";
+    let variables = "prefix=/srv/road\nlibdir=/srv/road/lib64\nincludedir=/srv/include\n";
     assert!(text.starts_with(variables), "{text}");
 
-    let other = place.join("opt/road/lib64/libother.a");
+    let other = place.join("srv/road/lib64/libother.a");
     fs::write(&other, "").expect("a file");
     let said = installed(&[&words[..], &["--uninstall"]].concat());
     assert_eq!(said.matches("removed ").count(), 3, "{said}");
