@@ -2,6 +2,7 @@ ghost use mathlib.Core.Path.{_≡_};
 ghost use Prim.Native.Nat.{_<_};
 ghost use lib.ListN.{length};
 ghost use Rattle.admission.specs.Order.{belowNumber, issuerNumber};
+ghost use Rattle.store.specs.Slots.{slotCount, storeLength};
 use octets::refusals::UNKNOWN;
 use octets::refusals::WITHDRAWN;
 use scope::Scope;
@@ -13,7 +14,7 @@ use store::slots::withdrawn;
 
 // The tests of an issuer that is stored.
 fn below(store: &[u8], slot: usize, subject: Scope) -> u8
-    requires { ⌜ (slot < 64) × (length (now store) ≡ 13568) ⌝ }
+    requires { ⌜ (slot < slotCount) × (length (now store) ≡ storeLength) ⌝ }
     ensures { λ r. ⌜ r ≡ belowNumber (now (store .entry)) subject slot ⌝ }
 {
     if withdrawn(store, slot) {
@@ -25,7 +26,7 @@ fn below(store: &[u8], slot: usize, subject: Scope) -> u8
 
 // The tests of the issuer with an id: the number of the refusal, or 0.
 pub fn issuer_number(store: &[u8], id: u64, subject: Scope) -> u8
-    requires { ⌜ length (now store) ≡ 13568 ⌝ }
+    requires { ⌜ length (now store) ≡ storeLength ⌝ }
     ensures { λ r. ⌜ r ≡ issuerNumber (now (store .entry)) id subject ⌝ }
 {
     match find_id(store, id) {

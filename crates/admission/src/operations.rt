@@ -6,6 +6,7 @@ ghost use Rattle.records.specs.Ranges.{InRange};
 ghost use Rattle.bitfields.specs.Field.{number};
 ghost use Rattle.admission.specs.Order.{wanted, absent, issuerRefusal, testNumber, placed, entered, installed, admitted};
 ghost use Rattle.store.specs.Search.{find};
+ghost use Rattle.store.specs.Slots.{storeLength};
 use crate::issuers::issuer_number;
 use certificate::operations::whole_outline;
 use certificate::outlines::OutlineRead;
@@ -22,12 +23,13 @@ use records::Record;
 use store::search::Found;
 use store::search::empty_slot;
 use store::search::find_id;
+use store::sizes::STORE_LENGTH;
 use store::slots::store_record;
 use validity::valid;
 
 // Whether no filled slot has an id.
 fn is_new(store: &[u8], id: u64) -> bool
-    requires { ⌜ length (now store) ≡ 13568 ⌝ }
+    requires { ⌜ length (now store) ≡ storeLength ⌝ }
     ensures { λ r. ⌜ r ≡ absent (find (now (store .entry)) id) ⌝ }
 {
     match find_id(store, id) {
@@ -48,7 +50,7 @@ fn takes(anchor: bool, kind: u8) -> bool
 
 // The tests of a record's issuer, which an anchor has not: the number of the refusal, or 0.
 fn issuer_refusal(store: &[u8], r: Record, anchor: bool) -> u8
-    requires { ⌜ length (now store) ≡ 13568 ⌝ }
+    requires { ⌜ length (now store) ≡ storeLength ⌝ }
     ensures { λ n. ⌜ n ≡ issuerRefusal anchor (now (store .entry)) r ⌝ }
 {
     if anchor {
@@ -61,7 +63,7 @@ fn issuer_refusal(store: &[u8], r: Record, anchor: bool) -> u8
 
 // The tests of a record that is to go into the store: the number of the refusal, or 0.
 fn test_number(store: &[u8], r: Record, verdict: u8, anchor: bool) -> u8
-    requires { ⌜ length (now store) ≡ 13568 ⌝ }
+    requires { ⌜ length (now store) ≡ storeLength ⌝ }
     ensures { λ n. ⌜ n ≡ testNumber anchor (now (store .entry)) r verdict ⌝ }
 {
     let id = r.id;
@@ -80,7 +82,7 @@ fn test_number(store: &[u8], r: Record, verdict: u8, anchor: bool) -> u8
 
 // A record goes into the lowest empty slot if it passes its tests.
 fn place(store: &mut [u8], r: Record, verdict: u8, anchor: bool) -> u8
-    requires { ⌜ (length (now store) ≡ 13568) × InRange r ⌝ }
+    requires { ⌜ (length (now store) ≡ storeLength) × InRange r ⌝ }
     ensures { λ n. ⌜ _≡_ {A = ℕ × List ℕ} (n, now (store .exit)) (placed anchor (now (store .entry)) r verdict) ⌝ }
 {
     let refusal = test_number(store, r, verdict, anchor);
@@ -100,7 +102,7 @@ fn place(store: &mut [u8], r: Record, verdict: u8, anchor: bool) -> u8
 fn enter(store: &mut [u8], octets: &[u8], verdict: u8, anchor: bool) -> u8
     ensures { λ r. ⌜ _≡_ {A = ℕ × List ℕ} (r, now (store .exit)) (entered anchor (now (store .entry)) (now (octets .entry)) verdict) ⌝ }
 {
-    if store.len() != 13568 {
+    if store.len() != STORE_LENGTH {
         return BAD_CALL;
     }
     if !valid(store) {

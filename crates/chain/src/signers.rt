@@ -2,6 +2,7 @@ ghost use mathlib.Core.Path.{_≡_};
 ghost use Prim.Native.Nat.{_<_};
 ghost use lib.ListN.{length};
 ghost use Rattle.chain.specs.Stored.{withdrawnIn, placeNumber, ownNumber, walkNumber, upOf, linked, upward};
+ghost use Rattle.store.specs.Slots.{slotCount, storeLength};
 use crate::steps::Up;
 use crate::steps::place_in;
 use crate::subjects::Place;
@@ -20,7 +21,7 @@ use store::slots::withdrawn;
 
 // Whether the certificate with an id is stored and counts as withdrawn.
 fn withdrawn_id(store: &[u8], id: u64) -> bool
-    requires { ⌜ length (now store) ≡ 13568 ⌝ }
+    requires { ⌜ length (now store) ≡ storeLength ⌝ }
     ensures { λ r. ⌜ r ≡ withdrawnIn (now (store .entry)) id ⌝ }
 {
     match find_id(store, id) {
@@ -44,7 +45,7 @@ fn place_of(scope: Scope, place: Place) -> u8
 
 // The tests of a certificate by itself.
 fn own(store: &[u8], subject: Subject, second: u64, place: Place) -> u8
-    requires { ⌜ length (now store) ≡ 13568 ⌝ }
+    requires { ⌜ length (now store) ≡ storeLength ⌝ }
     ensures { λ r. ⌜ r ≡ ownNumber (withdrawnIn (now (store .entry))) second place subject ⌝ }
 {
     if withdrawn_id(store, subject.id) {
@@ -62,7 +63,7 @@ fn own(store: &[u8], subject: Subject, second: u64, place: Place) -> u8
 
 // The step to an issuer that was found.
 fn link(store: &[u8], subject: Scope, issuer: usize) -> Up
-    requires { ⌜ (issuer < 64) × (length (now store) ≡ 13568) ⌝ }
+    requires { ⌜ (issuer < slotCount) × (length (now store) ≡ storeLength) ⌝ }
     ensures { λ r. ⌜ upOf r ≡ linked (now (store .entry)) subject issuer ⌝ }
 {
     let refusal = issued_by(subject, scope_at(store, issuer));
@@ -74,7 +75,7 @@ fn link(store: &[u8], subject: Scope, issuer: usize) -> Up
 
 // The step from a certificate to its issuer.
 fn step_from(store: &[u8], subject: Subject) -> Up
-    requires { ⌜ length (now store) ≡ 13568 ⌝ }
+    requires { ⌜ length (now store) ≡ storeLength ⌝ }
     ensures { λ r. ⌜ upOf r ≡ upward (now (store .entry)) subject ⌝ }
 {
     let scope = subject.scope;
@@ -86,7 +87,7 @@ fn step_from(store: &[u8], subject: Subject) -> Up
 
 // The walk from a certificate, stored or not; seven more may follow it. Those are stored, so from the issuer on it goes by slots.
 pub fn walk(store: &[u8], subject: Subject, second: u64, place: Place) -> u8
-    requires { ⌜ length (now store) ≡ 13568 ⌝ }
+    requires { ⌜ length (now store) ≡ storeLength ⌝ }
     ensures { λ r. ⌜ r ≡ walkNumber (withdrawnIn (now (store .entry))) (now (store .entry)) second place 7 subject ⌝ }
 {
     let refusal = own(store, subject, second, place);

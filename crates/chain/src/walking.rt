@@ -2,7 +2,7 @@ ghost use mathlib.Core.Path.{_≡_};
 ghost use mathlib.Core.Option.{some};
 ghost use Prim.Native.Nat.{_<_};
 ghost use lib.ListN.{length};
-ghost use Rattle.store.specs.Slots.{idAt};
+ghost use Rattle.store.specs.Slots.{slotCount, storeLength, idAt};
 ghost use Rattle.store.specs.Search.{find};
 ghost use Rattle.chain.specs.Stored.{subjectAt, alsoAt, walkNumber, upOf, Leads, walkedOn};
 use crate::steps::Up;
@@ -12,7 +12,7 @@ use crate::subjects::Place;
 // The walk goes on with the issuer that a step found, if it found one; at most `left` certificates may follow the one that the step
 // was made from. It calls itself, and the step is a call of its own, so that each of eight certificates takes little stack.
 fn walk_on(store: &[u8], up: Up, second: u64, place: Place, left: u8, gone: usize) -> u8
-    requires { ⌜ (length (now store) ≡ 13568) × Leads (now store) left (upOf up) ⌝ }
+    requires { ⌜ (length (now store) ≡ storeLength) × Leads (now store) left (upOf up) ⌝ }
     ensures { λ r. ⌜ r ≡ walkedOn (alsoAt (now (store .entry)) gone) (now (store .entry)) second place left (upOf up) ⌝ }
 {
     match up {
@@ -28,7 +28,7 @@ fn walk_on(store: &[u8], up: Up, second: u64, place: Place, left: u8, gone: usiz
 // The walk from a stored certificate, which its id finds; at most `left` certificates may follow it. The slot `gone` counts as
 // withdrawn too (64: none does).
 pub fn walk_at(store: &[u8], slot: usize, second: u64, place: Place, left: u8, gone: usize) -> u8
-    requires { ⌜ (slot < 64) × (length (now store) ≡ 13568) × (find (now store) (idAt (now store) slot) ≡ some slot) ⌝ }
+    requires { ⌜ (slot < slotCount) × (length (now store) ≡ storeLength) × (find (now store) (idAt (now store) slot) ≡ some slot) ⌝ }
     ensures { λ r. ⌜ r ≡ walkNumber (alsoAt (now (store .entry)) gone) (now (store .entry)) second place left (subjectAt (now (store .entry)) slot) ⌝ }
 {
     let first = step_at(store, slot, second, place, left, gone);

@@ -4,7 +4,7 @@ ghost use Prim.Native.Nat.{ℕ, _+_, _*_, _≤_, _<_};
 ghost use lib.ListN.{length, getD};
 ghost use Rattle.text.specs.Text.{Written};
 ghost use Rattle.records.specs.Records.{recordOf};
-ghost use Rattle.store.specs.Slots.{slotOf};
+ghost use Rattle.store.specs.Slots.{slotCount, storeLength, slotOf};
 ghost use Rattle.page_text.specs.Lines.{kindWord, nameOf, lineOf, linesOf, headOf, countOf, refusedOf};
 use records::Name;
 use records::Record;
@@ -63,7 +63,7 @@ fn write_certificate(text: &mut [u8], at: usize, slot: u32, r: Record) -> usize
 
 // The line of the certificate in a slot.
 fn write_line(text: &mut [u8], at: usize, store: &[u8], slot: u8) -> usize
-    requires { ⌜ (slot < 64) × (length (now store) ≡ 13568) × (at + 95 ≤ length (now text)) ⌝ }
+    requires { ⌜ (slot < slotCount) × (length (now store) ≡ storeLength) × (at + 95 ≤ length (now text)) ⌝ }
     ensures { λ r. ⌜ Written (now (text .entry)) at (lineOf slot (recordOf (slotOf (now (store .entry)) slot))) r (now (text .exit)) ⌝ }
 {
     write_certificate(text, at, slot as u32, record_at(store, slot as usize))
@@ -71,7 +71,7 @@ fn write_line(text: &mut [u8], at: usize, store: &[u8], slot: u8) -> usize
 
 // The lines of the certificates in these slots.
 fn write_lines(text: &mut [u8], at: usize, store: &[u8], slots: &[u8]) -> usize
-    requires { ⌜ (length (now store) ≡ 13568) × (at + 95 * length (now slots) ≤ length (now text)) × ((i : ℕ) → i < length (now slots) → getD (now slots) i 0 < 64) ⌝ }
+    requires { ⌜ (length (now store) ≡ storeLength) × (at + 95 * length (now slots) ≤ length (now text)) × ((i : ℕ) → i < length (now slots) → getD (now slots) i 0 < 64) ⌝ }
     ensures { λ r. ⌜ Written (now (text .entry)) at (linesOf (now (store .entry)) (now (slots .entry))) r (now (text .exit)) ⌝ }
 {
     let mut end = at;
@@ -115,7 +115,7 @@ pub fn write_refusal(text: &mut [u8], number: u8) -> usize
 
 // The text of a list: the first line, a line for each of these slots, and the count.
 pub fn write_list(text: &mut [u8], id: &[u8], second: u32, store: &[u8], slots: &[u8]) -> usize
-    requires { ⌜ (length (now id) ≡ 8) × (length (now store) ≡ 13568) × (length (now slots) ≤ 64) × (6144 ≤ length (now text)) × ((i : ℕ) → i < length (now slots) → getD (now slots) i 0 < 64) ⌝ }
+    requires { ⌜ (length (now id) ≡ 8) × (length (now store) ≡ storeLength) × (length (now slots) ≤ 64) × (6144 ≤ length (now text)) × ((i : ℕ) → i < length (now slots) → getD (now slots) i 0 < 64) ⌝ }
     ensures { λ r. ⌜ Written (now (text .entry)) 0 (headOf (now (id .entry)) second ++ linesOf (now (store .entry)) (now (slots .entry)) ++ countOf (length (now (slots .entry)))) r (now (text .exit)) ⌝ }
 {
     let a = write_head(text, id, second);

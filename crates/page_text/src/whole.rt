@@ -5,6 +5,7 @@ ghost use lib.ListN.{length};
 ghost use Rattle.bitfields.specs.Field.{number};
 ghost use Rattle.text.specs.Text.{Written};
 ghost use Rattle.page_text.specs.Page.{listed, pageOf, pageCall};
+ghost use Rattle.store.specs.Slots.{storeLength};
 use crate::lines::write_list;
 use crate::lines::write_refusal;
 use bitfields::reading::wide;
@@ -24,7 +25,7 @@ fn second_of(s: &[u8]) -> u32
 
 // The text for a store, an id and a second.
 fn write_page(store: &[u8], id: &[u8], second: u32, text: &mut [u8]) -> u32
-    requires { ⌜ (length (now store) ≡ 13568) × (length (now id) ≡ 8) × (6144 ≤ length (now text)) ⌝ }
+    requires { ⌜ (length (now store) ≡ storeLength) × (length (now id) ≡ 8) × (6144 ≤ length (now text)) ⌝ }
     ensures { λ r. ⌜ Written (now (text .entry)) 0 (pageOf (now (store .entry)) (now (id .entry)) second (listed (now (store .entry)) (now (id .entry)) second)) r (now (text .exit)) ⌝ }
 {
     let mut lent = [0u8; 64];

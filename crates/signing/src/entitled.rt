@@ -3,7 +3,7 @@ ghost use mathlib.Core.Option.{some};
 ghost use Prim.Native.Nat.{_<_};
 ghost use lib.ListN.{length};
 ghost use Rattle.records.specs.Records.{recordOf};
-ghost use Rattle.store.specs.Slots.{slotOf, idAt};
+ghost use Rattle.store.specs.Slots.{slotCount, storeLength, slotOf, idAt};
 ghost use Rattle.store.specs.Search.{find};
 ghost use Rattle.signing.specs.Signers.{subjectOf, entitledNumber};
 use crate::places::position_of;
@@ -38,7 +38,7 @@ fn subject_of(r: Record) -> Subject
 
 // The tests of a stored signer: its kind, the walk from it, its_aid. The number of the refusal, or 0.
 pub fn entitled_at(store: &[u8], slot: usize, fields: Fields, own: Position) -> u8
-    requires { ⌜ (slot < 64) × (length (now store) ≡ 13568) × (find (now store) (idAt (now store) slot) ≡ some slot) ⌝ }
+    requires { ⌜ (slot < slotCount) × (length (now store) ≡ storeLength) × (find (now store) (idAt (now store) slot) ≡ some slot) ⌝ }
     ensures { λ n. ⌜ n ≡ entitledNumber (now (store .entry)) fields own (recordOf (slotOf (now (store .entry)) slot)) ⌝ }
 {
     if kind_at(store, slot) != 1 {
@@ -65,7 +65,7 @@ pub fn entitled_at(store: &[u8], slot: usize, fields: Fields, own: Position) -> 
 
 // The same of a signer that need not be stored.
 pub fn entitled(store: &[u8], r: Record, fields: Fields, own: Position) -> u8
-    requires { ⌜ length (now store) ≡ 13568 ⌝ }
+    requires { ⌜ length (now store) ≡ storeLength ⌝ }
     ensures { λ n. ⌜ n ≡ entitledNumber (now (store .entry)) fields own r ⌝ }
 {
     let scope = r.scope;

@@ -2,6 +2,7 @@ ghost use mathlib.Core.Path.{_≡_};
 ghost use lib.ListN.{length};
 ghost use Rattle.verification.specs.Order.{judgedRefused, judgement};
 ghost use Rattle.verification.specs.Parts.{ReadsParts, IsSigner};
+ghost use Rattle.store.specs.Slots.{storeLength};
 use chain::subjects::Position;
 use message::messages::MessageParts;
 use message::messages::MessageRead;
@@ -18,6 +19,7 @@ use signing::signers::carried_signer;
 use signing::signers::named_signer;
 use signing::signers::no_signer;
 use signing::times::in_time;
+use store::sizes::STORE_LENGTH;
 use validity::valid;
 
 // When and where a message is checked: the time in microseconds, the caller's own position, the allowed age.
@@ -47,7 +49,7 @@ fn refused(number: u8) -> Judged
 
 // The signer of a message that was read from these octets.
 fn signer_of(store: &[u8], octets: &[u8], m: MessageParts, own: Position) -> SignerJudged
-    requires { ⌜ (length (now store) ≡ 13568) × ReadsParts (now octets) m ⌝ }
+    requires { ⌜ (length (now store) ≡ storeLength) × ReadsParts (now octets) m ⌝ }
     ensures { λ r. ⌜ IsSigner (now (store .entry)) (now (octets .entry)) m own r ⌝ }
 {
     let fields = m.headers.fields;
@@ -63,7 +65,7 @@ fn signer_of(store: &[u8], octets: &[u8], m: MessageParts, own: Position) -> Sig
 pub fn judge(store: &[u8], octets: &[u8], x: Situation) -> Judged
     ensures { λ r. ⌜ r ≡ judgement (now (store .entry)) (now (octets .entry)) x ⌝ }
 {
-    if store.len() != 13568 {
+    if store.len() != STORE_LENGTH {
         return refused(BAD_CALL);
     }
     if !in_range(x.latitude, x.longitude) {

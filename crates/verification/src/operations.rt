@@ -5,6 +5,7 @@ ghost use lib.ListN.{length};
 ghost use Rattle.verification.specs.Order.{situation, question, unasked, partsQuestion, unprepared, preparation, undecided, decision};
 ghost use Rattle.verification.specs.declared.operations.Decision.{Decision};
 ghost use Rattle.verification.specs.declared.operations.Prepared.{Prepared};
+ghost use Rattle.store.specs.Slots.{storeLength};
 use crate::judging::Situation;
 use crate::judging::judge;
 use message::signers::SignerParts;
@@ -94,7 +95,7 @@ fn undecided(number: u8) -> Decision
 
 // The question for the certificate that a message carries, by the key of its issuer.
 fn certificate_question(store: &[u8], signer: SignerParts, issuer: u64) -> Question
-    requires { ⌜ length (now store) ≡ 13568 ⌝ }
+    requires { ⌜ length (now store) ≡ storeLength ⌝ }
     ensures { λ r. ⌜ r ≡ partsQuestion (now (store .entry)) signer issuer ⌝ }
 {
     if signer.kind != 2 {

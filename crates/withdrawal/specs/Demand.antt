@@ -6,7 +6,8 @@ use mathlib.Core.List.{List, List·Memᴰ}
 use Prim.Native.Nat.{ℕ, _+_, _*_, _<_, _≤_}
 use lib.ListN.{length, getD, take}
 use Rattle.bitfields.specs.Field.{number, field, Octets}
-use Rattle.store.specs.Slots.{HELD, GONE, stateAt, filledAt, idAt}
+use Rattle.records.specs.Layout.{STATE}
+use Rattle.store.specs.Slots.{slotBits, storeLength, HELD, GONE, stateAt, filledAt, idAt}
 use Rattle.validity.specs.Laws.{Valid}
 use Rattle.chain.specs.Stored.{stands}
 use Rattle.withdrawal.specs.Order.{Listing, page, withdrawal}
@@ -45,7 +46,7 @@ pub record Demand3 (s : List ℕ) (c t : ℕ) (l : List ℕ) (p : Listing) (w : 
   pub held : stateAt s c ≡ HELD
   pub gone : stateAt (w .1) c ≡ GONE
   -- and no other bit
-  pub no-other-bit : (k : ℕ) → k < 8 * 13568 → ¬ (k ≡ c * 1696 + 128) → ¬ (k ≡ c * 1696 + 129) → field (w .1) k 1 ≡ field s k 1
+  pub no-other-bit : (k : ℕ) → k < 8 * storeLength → ¬ (k ≡ c * slotBits + STATE .bit) → ¬ (k ≡ c * slotBits + (STATE .bit + 1)) → field (w .1) k 1 ≡ field s k 1
   pub long : length (w .1) ≡ length s
   -- off the list a stored certificate stands after exactly when it stood before
   pub off-list : (i : ℕ) → Stored s i → ¬ List·Memᴰ i (named p) → stands (w .1) t i ≡ stands s t i

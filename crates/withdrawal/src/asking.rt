@@ -2,6 +2,7 @@ ghost use mathlib.Core.Path.{_≡_};
 ghost use Prim.Native.Nat.{_<_};
 ghost use lib.ListN.{length};
 ghost use Rattle.withdrawal.specs.Order.{askedOf, heldAt, asked};
+ghost use Rattle.store.specs.Slots.{slotCount, storeLength};
 use bitfields::reading::window;
 use octets::refusals::BAD_CALL;
 use octets::refusals::BAD_STORE;
@@ -9,6 +10,7 @@ use octets::refusals::UNKNOWN;
 use octets::refusals::WITHDRAWN;
 use store::search::Found;
 use store::search::find_id;
+use store::sizes::STORE_LENGTH;
 use store::slots::withdrawn;
 use validity::valid;
 
@@ -20,7 +22,7 @@ pub enum Asked {
 
 // A slot that was found, unless it is withdrawn.
 fn held(store: &[u8], slot: usize) -> Asked
-    requires { ⌜ (slot < 64) × (length (now store) ≡ 13568) ⌝ }
+    requires { ⌜ (slot < slotCount) × (length (now store) ≡ storeLength) ⌝ }
     ensures { λ r. ⌜ askedOf r ≡ heldAt (now (store .entry)) slot ⌝ }
 {
     if withdrawn(store, slot) {
@@ -33,7 +35,7 @@ fn held(store: &[u8], slot: usize) -> Asked
 pub fn ask(store: &[u8], id: &[u8]) -> Asked
     ensures { λ r. ⌜ askedOf r ≡ asked (now (store .entry)) (now (id .entry)) ⌝ }
 {
-    if store.len() != 13568 {
+    if store.len() != STORE_LENGTH {
         return Asked::Refused(BAD_CALL);
     }
     if id.len() != 8 {

@@ -4,7 +4,7 @@ ghost use mathlib.Core.List.{List};
 ghost use Prim.Native.Nat.{ℕ, _≤_, _<_};
 ghost use lib.ListN.{length};
 ghost use Rattle.order.specs.Steps.{gives};
-ghost use Rattle.store.specs.Slots.{filledAt};
+ghost use Rattle.store.specs.Slots.{slotCount, storeLength, filledAt};
 ghost use Rattle.validity.specs.Valid.{validStore};
 ghost use Rattle.withdrawal.specs.Order.{after, listing, listedFor, page, withdrawal};
 ghost use Rattle.withdrawal.specs.Demand.{BothCalls};
@@ -16,6 +16,7 @@ use bitfields::writing::put;
 use octets::refusals::ACCEPTED;
 use octets::refusals::BAD_CALL;
 use records::layout::STATE_AT;
+use store::sizes::SLOT_BITS;
 
 // What list answers: the number, and how many slots the list has.
 pub struct Listed {
@@ -60,10 +61,10 @@ pub fn list(store: &[u8], id: &[u8], second: u32, lent: &mut [u8]) -> Listed
 
 // The two state bits of a slot become 2, withdrawn.
 fn mark(store: &mut [u8], c: usize)
-    requires { ⌜ (c < 64) × (length (now store) ≡ 13568) ⌝ }
+    requires { ⌜ (c < slotCount) × (length (now store) ≡ storeLength) ⌝ }
     ensures { λ _. ⌜ now (store .exit) ≡ after (now (store .entry)) c ⌝ }
 {
-    put(store, c * 1696 + STATE_AT, 2, 2);
+    put(store, c * SLOT_BITS + STATE_AT, 2, 2);
 }
 
 // The withdrawal by id.
