@@ -1,8 +1,6 @@
 // The sizes of a store (specs/Slots).
+use records::layout::SLOT_LENGTH;
+
 pub const SLOTS: usize = 64;
 
-pub const SLOT_LENGTH: usize = 212;
-
-pub const SLOT_BITS: usize = 1696;
-
-pub const STORE_LENGTH: usize = 13568;
+pub const STORE_LENGTH: usize = SLOTS * SLOT_LENGTH;

@@ -1,6 +1,6 @@
 -- The laws of specs/Laws.antt hold. Assumes nothing.
 use Rattle.text.specs.Laws.{Laws}
-use Rattle.text.proofs.Texts.{texts-joined, text-long}
+use Rattle.octets.proofs.Buffered.{octets-joined, octets-long}
 use Rattle.text.proofs.Hex.{hex-back, hex-digits, hex-long}
 use Rattle.text.proofs.Decimals.{decimal-back, decimal-digits, decimal-leading, decimal-some, decimal-ten}
 
@@ -15,6 +15,6 @@ laws =
       hex-back = hex-back;
       hex-digits = hex-digits;
       hex-long = hex-long;
-      texts-joined = texts-joined;
-      text-long = text-long;
+      texts-joined = octets-joined;
+      text-long = octets-long;
     }

@@ -6,7 +6,8 @@ use mathlib.Core.List.{List, [], _∷_, _++_}
 use lib.Dec.{ltb}
 use lib.ListN.{length, getD}
 use Rattle.octets.specs.Reading.{pick}
-use Rattle.text.specs.Text.{hexDigit, hexOf, decimalOf, withText}
+use Rattle.text.specs.Text.{hexDigit, hexOf, decimalOf}
+use Rattle.octets.specs.Buffers.{withOctets}
 
 -- the number that decimal digits stand for, behind those that gave a
 unfoldable pub numberOn : ℕ → List ℕ → ℕ
@@ -41,5 +42,5 @@ pub record Laws : Type 0 where
   pub hex-long : (s : List ℕ) → length (hexOf s) ≡ 2 * length s
   -- two texts written one behind the other are the text of both joined
   pub texts-joined : (l : List ℕ) (at : ℕ) (a b : List ℕ) → at + length a + length b ≤ length l
-      → withText (withText l at a) (at + length a) b ≡ withText l at (a ++ b)
-  pub text-long : (l : List ℕ) (at : ℕ) (text : List ℕ) → at + length text ≤ length l → length (withText l at text) ≡ length l
+      → withOctets (withOctets l at a) (at + length a) b ≡ withOctets l at (a ++ b)
+  pub text-long : (l : List ℕ) (at : ℕ) (text : List ℕ) → at + length text ≤ length l → length (withOctets l at text) ≡ length l

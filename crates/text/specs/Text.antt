@@ -3,8 +3,9 @@ use mathlib.Core.Path.{_≡_}
 use Prim.Native.Nat.{ℕ, zero, suc, _+_, _/_, _%_}
 use mathlib.Core.List.{List, [], _∷_, _++_}
 use lib.Dec.{ltb}
-use lib.ListN.{length, take, drop}
+use lib.ListN.{length}
 use Rattle.octets.specs.Reading.{pick}
+use Rattle.octets.specs.Buffers.{withOctets}
 
 -- 0 to 9 are 48 to 57, a to f are 97 to 102
 unfoldable pub hexDigit : ℕ → ℕ
@@ -26,10 +27,6 @@ unfoldable pub decimalOf : ℕ → List ℕ
 decimalOf zero = 48 ∷ []
 decimalOf (suc x) = digitsOf (suc x) (suc x)
 
--- a text from place `at` on; all other octets stay
-unfoldable pub withText : List ℕ → ℕ → List ℕ → List ℕ
-withText l at text = take at l ++ text ++ drop (at + length text) l
-
 -- a text was written into l at a place: the answer is the place behind it, and out is what the buffer holds
 abbrev pub Written : List ℕ → ℕ → List ℕ → ℕ → List ℕ → Type 0
-Written l at text r out = (r ≡ at + length text) × (out ≡ withText l at text)
+Written l at text r out = (r ≡ at + length text) × (out ≡ withOctets l at text)

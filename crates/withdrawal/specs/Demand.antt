@@ -6,8 +6,8 @@ use mathlib.Core.List.{List, List·Memᴰ}
 use Prim.Native.Nat.{ℕ, _+_, _*_, _<_, _≤_}
 use lib.ListN.{length, getD, take}
 use Rattle.bitfields.specs.Field.{number, field, Octets}
-use Rattle.records.specs.Layout.{STATE}
-use Rattle.store.specs.Slots.{slotBits, storeLength, HELD, GONE, stateAt, filledAt, idAt}
+use Rattle.records.specs.Layout.{STATE, slotBits}
+use Rattle.store.specs.Slots.{storeLength, HELD, GONE, stateAt, filledAt, idAt}
 use Rattle.validity.specs.Laws.{Valid}
 use Rattle.chain.specs.Stored.{stands}
 use Rattle.withdrawal.specs.Order.{Listing, page, withdrawal}

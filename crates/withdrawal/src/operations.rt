@@ -15,8 +15,8 @@ use crate::falling::write_slots;
 use bitfields::writing::put;
 use octets::refusals::ACCEPTED;
 use octets::refusals::BAD_CALL;
+use records::layout::SLOT_BITS;
 use records::layout::STATE_AT;
-use store::sizes::SLOT_BITS;
 
 // What list answers: the number, and how many slots the list has.
 pub struct Listed {

@@ -1,7 +1,7 @@
 -- `text::hexadecimal::write_hex` meets its contract. The invariant: the digits of the first octets are written. Assumes nothing.
 use Prim.Native.Nat.{_*_, _≤_, _-_}
 use Rattle.text.specs.Text.{hexOf}
-use Rattle.text.proofs.Texts.{text-pasted}
+use Rattle.octets.proofs.Buffered.{octets-pasted}
 use Rattle.text.proofs.Hex.{hex-long, hex-turn}
 use borrow.Author.Needs.{needs}
 use lib.ListN.{length, length-set}
@@ -73,7 +73,7 @@ returns c = let l = c .before .loop in
     let s = a .octets .now in
     let n = hex-long s in
     let e : 2 * l .i ≡ length (hexOf s) = omega arith in
-    (omega arith, l .inv .2 ∙ ap (paste (a .out .now) (a .at) (hexOf s)) e ∙ text-pasted (a .out .now) (a .at) (hexOf s))
+    (omega arith, l .inv .2 ∙ ap (paste (a .out .now) (a .at) (hexOf s)) e ∙ octets-pasted (a .out .now) (a .at) (hexOf s))
 
 pub write-hex-spec : {M : Type 1} → statement M
 write-hex-spec =
