@@ -21,7 +21,8 @@ use Rattle.chain.specs.declared.subjects.Place.{Place}
 use Rattle.chain.specs.declared.subjects.Place.the-variants.{Anywhere, At}
 use Rattle.chain.specs.Walk.{placeRows, ownRows, climb}
 use Rattle.chain.specs.Chains.{Root}
-use Rattle.chain.specs.Stored.{slotOr, subjectOr, subjectAt, issuerIn, walkNumber, ownNumber, linked, upward, walkedOn, Leads}
+use Rattle.chain.specs.Stored.{slotOr, subjectOr, subjectAt, issuerIn, walkNumber}
+use Rattle.chain.specs.Computed.{ownNumber, linked, upward, walkedOn, Leads}
 use Rattle.chain.proofs.Coding as coding
 
 place-coded : (p : Place) (s : Scope) → Coded (placeRows p s)
