@@ -12,6 +12,11 @@ use octets::vectors::Part;
 use octets::vectors::Span;
 use octets::vectors::run_at;
 
+// The types of a signer (001, clause 4.2.11) that are read: an id, or a certificate.
+pub const NAMED: u8 = 1;
+
+pub const CARRIED: u8 = 2;
+
 // Who signed: 1 the certificate with the id whose 8 octets are named, 2 the certificate that stands here, of which the signed range and
 // the signature are given; 0 nobody is named.
 pub struct SignerParts {

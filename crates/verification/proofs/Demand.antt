@@ -39,7 +39,7 @@ use Rattle.verification.specs.declared.judging.Situation.{Situation}
 use Rattle.verification.specs.declared.operations.Decision.{Decision}
 use Rattle.verification.specs.declared.operations.Prepared.{Prepared}
 use Rattle.signing.proofs.Signed.{signed-numbered}
-use Rattle.verification.proofs.Decided.{decided-passes, prepared-passes}
+use Rattle.verification.proofs.Opened.{decided-passes, prepared-passes}
 use Rattle.verification.proofs.Passes.{passes-to, passes-from}
 
 -- ---- the verdicts

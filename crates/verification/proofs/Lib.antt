@@ -1,6 +1,6 @@
 pub mod Reading
-pub mod Judged
-pub mod Decided
+pub mod Signer
+pub mod Opened
 pub mod Rules
 pub mod Passes
 pub mod Demand

@@ -6,7 +6,7 @@ use mathlib.Core.List.{List}
 use mathlib.Core.Option.{Option, none, some}
 use Prim.Native.Nat.{ℕ, _+_, _-_, _*_, _≤_, _<_}
 use native.Mathlib.Omega.{arith}
-use borrow.Author.Tests.{leb-true, ltb-true, le-leb, lt-ltb, eqb-true, eq-eqb, ne-eqb}
+use borrow.Author.Tests.{leb-true, ltb-true, le-leb, lt-ltb, eqb-true, eq-eqb, ne-eqb, not-true}
 use lib.Dec.{eqb, ltb}
 use lib.ListN.{drop}
 use Rattle.order.specs.Steps.{gives, run, Well, well, Gives}
@@ -20,12 +20,12 @@ use Rattle.headers.specs.declared.fields.Fields.{Fields}
 use Rattle.message.specs.Messages.{Message}
 use Rattle.scope.specs.Issued.{listed, Among}
 use Rattle.scope.proofs.Sets.{listed-among, among-listed}
-use Rattle.records.specs.Layout.{STATE, PADDING, valueOf}
+use Rattle.records.specs.Layout.{STATE, PADDING, valueOf, slotLength}
 use Rattle.records.specs.Records.{recordOf, imageOf}
 use Rattle.records.specs.Ranges.{InRange, Sized}
 use Rattle.records.specs.declared.Record.{Record}
 use Rattle.records.proofs.Laws.{laws as record-laws}
-use Rattle.store.specs.Slots.{slotOf, GONE, stateAt, filledAt}
+use Rattle.store.specs.Slots.{slotOf, stateAt, filledAt}
 use Rattle.store.specs.Search.{find}
 use Rattle.store.specs.Laws.{Holds}
 use Rattle.store.proofs.Found.{find-none, found-to, found-from}
@@ -43,10 +43,10 @@ use Rattle.entries.specs.Stored.{partOf, recordFrom}
 use Rattle.entries.proofs.Facts.{facts}
 use Rattle.signing.specs.Times.{allowedAge, wholeSecond, unexpired, inTime}
 use Rattle.signing.specs.Places.{positionOf}
-use Rattle.signing.specs.Copies.{copySteps, copying}
+use Rattle.signing.specs.Copies.{comparing, copying}
 use Rattle.signing.specs.Signers.{signing, subjectOf, entitling}
 use Rattle.verification.specs.Accepted.{Reads, Fresh, Unchanged, Signs, by-id, by-certificate}
-use Rattle.signing.proofs.Copied.{same-exactly}
+use Rattle.store.proofs.Copied.{same-exactly}
 use Rattle.verification.proofs.Reading.{carried-standing}
 
 differs : (n k : ℕ) → eqb n k ≡ false → ¬ (n ≡ k)
@@ -105,7 +105,7 @@ not-empty false e = refl
 slot-image : (l : List ℕ) (i : ℕ) → Octets l → Valid l → i < 64 → filledAt l i ≡ true → imageOf (recordOf (slotOf l i)) ≡ slotOf l i
 unfolding stateAt
 slot-image l i o v h f =
-    record-laws .image-back (slotOf l i) (octets-take 212 (drop (i * 212) l) (octets-drop (i * 212) l o)) (slot-long l i (v .size) h)
+    record-laws .image-back (slotOf l i) (octets-take slotLength (drop (i * slotLength) l) (octets-drop (i * slotLength) l o)) (slot-long l i (v .size) h)
     (good-padding (slotOf l i) (not-empty _ f) (v .slots i h))
 
 slot-of : {i j : ℕ} → some i ≡ some j → i ≡ j
@@ -117,32 +117,25 @@ slot-of {i} {j} e = ap (λ (o : Option ℕ). in-some o) e
 
 module _ (store : List ℕ) (r : Record) (o : Octets store) (v : Valid store) (ranged : InRange r) (sized : Sized r) where
   pub copy-to : (w : Well) → run (copying store r) ≡ gives w → Unchanged store r
-  copy-to w e = by (find store (number (r .id))) refl (gives-exactly (copying store r) w .0 e)
+  copy-to w e =
+      let g = gives-exactly (copying store r) w .0 e in
+      record { not-withdrawn = not-true _ (g .0); same = by (find store (number (r .id))) refl (g .1) }
     where
-      by : (s : Option ℕ) → find store (number (r .id)) ≡ s → Gives (copySteps store r s) w → Unchanged store r
-      by none f g = record {
-        not-withdrawn = λ i h. absurd (find-none store (number (r .id)) f i (h .slot) (h .filled) (h .has-id));
-        same = λ i h. absurd (find-none store (number (r .id)) f i (h .slot) (h .filled) (h .has-id));
-      }
-      by (some j) f (held, (same, q)) =
-          let here : (i : ℕ) → Holds store (number (r .id)) i → i ≡ j = λ i h. slot-of (sym (found-from store (number (r .id)) i (v .distinct) h) ∙ f) in
-          record {
-            not-withdrawn = λ i h z. never (sym (ap not (eq-eqb _ GONE (sym (ap (stateAt store) (here i h)) ∙ z))) ∙ held);
-            same = λ i h. ap (λ (k : ℕ). recordOf (slotOf store k)) (here i h) ∙ ap recordOf (same-exactly (slotOf store j) (imageOf r) .0 same) ∙ record-laws .round-trip r ranged sized;
-          }
+      by : (s : Option ℕ) → find store (number (r .id)) ≡ s → Gives (comparing store r s) w → (i : ℕ) → Holds store (number (r .id)) i → recordOf (slotOf store i) ≡ r
+      by none f g i h = absurd (find-none store (number (r .id)) f i (h .slot) (h .filled) (h .has-id))
+      by (some j) f (same, q) i h =
+          let here : i ≡ j = slot-of (sym (found-from store (number (r .id)) i (v .distinct) h) ∙ f) in
+          ap (λ (k : ℕ). recordOf (slotOf store k)) here ∙ ap recordOf (same-exactly (slotOf store j) (imageOf r) .0 same) ∙ record-laws .round-trip r ranged sized
 
   pub copy-from : Unchanged store r → run (copying store r) ≡ gives well
-  copy-from u = gives-exactly (copying store r) well .1 (by (find store (number (r .id))) refl)
+  copy-from u = gives-exactly (copying store r) well .1 (ap not (u .not-withdrawn), by (find store (number (r .id))) refl)
     where
-      by : (s : Option ℕ) → find store (number (r .id)) ≡ s → Gives (copySteps store r s) well
+      by : (s : Option ℕ) → find store (number (r .id)) ≡ s → Gives (comparing store r s) well
       by none f = refl
       by (some j) f =
           let h = found-to store (number (r .id)) j f in (
-            ap not (ne-eqb _ GONE (u .not-withdrawn j h)),
-            (
-              same-exactly (slotOf store j) (imageOf r) .1 (sym (slot-image store j o v (h .slot) (h .filled)) ∙ ap imageOf (u .same j h)),
-              refl,
-            ),
+            same-exactly (slotOf store j) (imageOf r) .1 (sym (slot-image store j o v (h .slot) (h .filled)) ∙ ap imageOf (u .same j h)),
+            refl,
           )
 
 -- ---- the signer

@@ -1,18 +1,20 @@
 -- The rules of decide in the paper's words (01, "The signed message", "How a chain is walked", "Order of checks"): a message is accepted exactly
 -- if this record holds.
 use mathlib.Core.Path.{_≡_}
-use mathlib.Core.Bool.{true}
+use mathlib.Core.Bool.{true, false}
 use mathlib.Core.Logic.{_≢_}
 use mathlib.Core.List.{List}
 use Prim.Native.Nat.{ℕ, _+_, _≤_, _<_}
 use lib.ListN.{length}
+use Rattle.octets.specs.Kinds.{TICKET}
+use Rattle.octets.specs.Coordinates.{latitudeLimit, longitudeLimit}
 use Rattle.octets.specs.Reading.{got}
 use Rattle.bitfields.specs.Field.{number}
 use Rattle.message.specs.Messages.{Message, wholeMessage}
 use Rattle.scope.specs.Issued.{listed, Among}
 use Rattle.records.specs.Records.{recordOf}
 use Rattle.records.specs.declared.Record.{Record}
-use Rattle.store.specs.Slots.{storeLength, slotOf, GONE, stateAt}
+use Rattle.store.specs.Slots.{storeLength, slotOf}
 use Rattle.store.specs.Laws.{Holds}
 use Rattle.validity.specs.Laws.{Valid}
 use Rattle.layout.specs.WellFormed.{Within}
@@ -37,7 +39,7 @@ Fresh generation time age = (generation ≤ time + age) × (time ≤ generation 
 
 -- a stored certificate with the id of the one that the message carries is not withdrawn, and its record is the same
 pub record Unchanged (store : List ℕ) (r : Record) : Type 0 where
-  pub not-withdrawn : (i : ℕ) → Holds store (number (r .id)) i → stateAt store i ≢ GONE
+  pub not-withdrawn : withdrawnIn store (number (r .id)) ≡ false
   pub same : (i : ℕ) → Holds store (number (r .id)) i → recordOf (slotOf store i) ≡ r
 
 -- who signs: the stored certificate that the message names, or the certificate that it carries
@@ -51,7 +53,7 @@ pub data Signs (store octets : List ℕ) (m : Message) : Record → Type 0 where
 pub record Passing (store octets : List ℕ) (x : Situation) (m : Message) (r : Record) : Type 0 where
   -- the call
   pub size : length store ≡ storeLength
-  pub position : Within 900000000 (x .latitude) × Within 1800000000 (x .longitude)
+  pub position : Within latitudeLimit (x .latitude) × Within longitudeLimit (x .longitude)
   pub age-allowed : x .age ≤ longestAge
   pub valid : Valid store
   -- the message's form
@@ -62,7 +64,7 @@ pub record Passing (store octets : List ℕ) (x : Situation) (m : Message) (r : 
   -- its signer: stored, or carried and, if a copy of it is stored, the same as that
   pub signs : Signs store octets m r
   -- a ticket
-  pub kind : r .scope .kind ≡ 1
+  pub kind : r .scope .kind ≡ TICKET
   -- a chain of at most eight up to a root: each certificate not withdrawn, in its period and in its region, each issued by the next
   pub chain : Chain (issuerIn store)
       (Sound (withdrawnIn store) (wholeSecond (m .headers .fields .generation .time)) (At (positionOf (m .headers .fields .location) (ownPosition x))))

@@ -13,8 +13,6 @@ use Rattle.octets.specs.Vectors.{nowhere}
 use Rattle.octets.specs.declared.vectors.Part.{Part}
 use Rattle.bitfields.specs.Field.{number}
 use Rattle.message.specs.Messages.{Message, wholeMessage}
-use Rattle.message.specs.Parts.{messageParts, noParts}
-use Rattle.message.specs.declared.signers.SignerParts.{SignerParts}
 use Rattle.records.specs.Records.{recordOf}
 use Rattle.records.specs.declared.Record.{Record}
 use Rattle.store.specs.Slots.{storeLength, slotOf}
@@ -26,9 +24,7 @@ use Rattle.signing.specs.Times.{longestAge, inTime}
 use Rattle.signing.specs.Places.{inRange}
 use Rattle.signing.specs.declared.signers.PublicKey.{PublicKey}
 use Rattle.signing.specs.Signers.{carries, signed, publicKey}
-use Rattle.signing.specs.Computed.{identityOf, nobody}
 use Rattle.verification.specs.declared.judging.Situation.{Situation}
-use Rattle.verification.specs.declared.judging.Judged.{Judged}
 use Rattle.verification.specs.declared.operations.Decision.{Decision}
 use Rattle.verification.specs.declared.operations.Question.{Question}
 use Rattle.verification.specs.declared.operations.Prepared.{Prepared}
@@ -131,20 +127,3 @@ preparedOf (refused k) = unprepared k
 
 unfoldable pub preparation : List ℕ → List ℕ → Situation → Prepared
 preparation store octets x = preparedOf (run (preparing store octets x))
-
--- ---- what the code passes on
-
--- the certificate's question from the signer's parts
-unfoldable pub partsQuestion : List ℕ → SignerParts → ℕ → Question
-partsQuestion store g issuer =
-    pick (eqb (g .kind) 2) (issuerQuestion store (g .signed) (g .signature) (find store issuer)) unasked
-
-abbrev pub judgedRefused : ℕ → Judged
-judgedRefused k = record { number = k; message = noParts; signer = nobody }
-
-abbrev pub judgedOf : Answer Passed → Judged
-judgedOf (gives p) = record { number = ACCEPTED; message = messageParts (p .message); signer = identityOf (p .signer) }
-judgedOf (refused k) = judgedRefused k
-
-unfoldable pub judgement : List ℕ → List ℕ → Situation → Judged
-judgement store octets x = judgedOf (run (judging store octets x))

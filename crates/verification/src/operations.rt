@@ -2,20 +2,33 @@ ghost use mathlib.Core.Path.{_≡_};
 ghost use mathlib.Core.List.{List};
 ghost use Prim.Native.Nat.{ℕ};
 ghost use lib.ListN.{length};
-ghost use Rattle.verification.specs.Order.{situation, question, unasked, partsQuestion, unprepared, preparation, undecided, decision};
+ghost use Rattle.verification.specs.Order.{situation, question, unasked, unprepared, preparation, undecided, decision};
 ghost use Rattle.verification.specs.declared.operations.Decision.{Decision};
 ghost use Rattle.verification.specs.declared.operations.Prepared.{Prepared};
+ghost use Rattle.verification.specs.Computed.{partsQuestion, preparedFrom, decidedFrom};
 ghost use Rattle.store.specs.Slots.{storeLength};
 use crate::judging::Situation;
-use crate::judging::judge;
+use crate::judging::opened;
+use chain::subjects::Position;
+use message::messages::MessageParts;
+use message::messages::MessageRead;
+use message::signers::CARRIED;
 use message::signers::SignerParts;
 use octets::refusals::ACCEPTED;
 use octets::refusals::BAD_SIGNATURE;
 use octets::vectors::Part;
+use octets::vectors::nowhere;
 use signing::signers::PublicKey;
-use signing::signers::key_at;
+use signing::signers::SignerJudged;
+use signing::signers::carried_signer;
+use signing::signers::named_signer;
+use signing::signers::public_key;
+use store::fields::key_at;
 use store::search::Found;
 use store::search::find_id;
+
+// The chip's verdict on a good signature.
+const GOOD: u8 = 1;
 
 // What the chip is asked: the signed range, the key's point type and octets, and the whole signature structure. Ranges are parts of the message.
 pub struct Question {
@@ -44,15 +57,11 @@ pub struct Decision {
 fn no_question() -> Question
     ensures { λ r. ⌜ r ≡ unasked ⌝ }
 {
-    let nowhere = Part {
-        start: 0,
-        length: 0,
-    };
     Question {
-        signed: nowhere,
+        signed: nowhere(),
         kind: 0,
         key: [0; 32],
-        signature: nowhere,
+        signature: nowhere(),
     }
 }
 
@@ -83,10 +92,7 @@ fn undecided(number: u8) -> Decision
 {
     Decision {
         number,
-        payload: Part {
-            start: 0,
-            length: 0,
-        },
+        payload: nowhere(),
         signer: [0; 8],
         permission: 0,
         generation: 0,
@@ -98,13 +104,13 @@ fn certificate_question(store: &[u8], signer: SignerParts, issuer: u64) -> Quest
     requires { ⌜ length (now store) ≡ storeLength ⌝ }
     ensures { λ r. ⌜ r ≡ partsQuestion (now (store .entry)) signer issuer ⌝ }
 {
-    if signer.kind != 2 {
+    if signer.kind != CARRIED {
         return no_question();
     }
     match find_id(store, issuer) {
         Found::Nowhere => no_question(),
         Found::At(slot) => {
-            let key = key_at(store, slot);
+            let key = public_key(key_at(store, slot));
             let signed = signer.signed;
             let signature = signer.signature;
             question_of(signed, key, signature)
@@ -112,19 +118,19 @@ fn certificate_question(store: &[u8], signer: SignerParts, issuer: u64) -> Quest
     }
 }
 
-// The signature questions of a message, if it passes all other tests.
-fn prepare_in(store: &[u8], message: &[u8], x: Situation) -> Prepared
-    ensures { λ r. ⌜ r ≡ preparation (now (store .entry)) (now (message .entry)) x ⌝ }
+// The questions of a message with these parts, by what its signer's tests answered.
+fn questions_for(store: &[u8], m: MessageParts, judged: SignerJudged) -> Prepared
+    requires { ⌜ length (now store) ≡ storeLength ⌝ }
+    ensures { λ r. ⌜ r ≡ preparedFrom (now (store .entry)) m judged ⌝ }
 {
-    let judged = judge(store, message, x);
     let number = judged.number;
     if number != ACCEPTED {
         return unprepared(number);
     }
-    let signed = judged.message.signed;
+    let signed = m.signed;
     let key = judged.signer.key;
-    let signature = judged.message.signature.octets;
-    let signer = judged.message.headers.signer;
+    let signature = m.signature.octets;
+    let signer = m.headers.signer;
     Prepared {
         number: ACCEPTED,
         message: question_of(signed, key, signature),
@@ -132,30 +138,83 @@ fn prepare_in(store: &[u8], message: &[u8], x: Situation) -> Prepared
     }
 }
 
-// Decides a message, by the chip's verdicts on its signature and on that of the certificate that it carries.
-fn decide_in(store: &[u8], message: &[u8], x: Situation, verdict: u8, certified: u8) -> Decision
-    ensures { λ r. ⌜ r ≡ decision (now (store .entry)) (now (message .entry)) x verdict certified ⌝ }
+// The signature questions of a message, if it passes all other tests.
+fn prepare_in(store: &[u8], message: &[u8], x: Situation) -> Prepared
+    ensures { λ r. ⌜ r ≡ preparation (now (store .entry)) (now (message .entry)) x ⌝ }
 {
-    let judged = judge(store, message, x);
+    let read = opened(store, message, x);
+    let MessageRead::Value {
+        message: m,
+        next: _,
+    } = read
+    else {
+        return unprepared(read.refusal());
+    };
+    let own = Position {
+        latitude: x.latitude,
+        longitude: x.longitude,
+    };
+    let fields = m.headers.fields;
+    if m.headers.signer.kind == CARRIED {
+        let at = m.headers.signer.signed.start;
+        let judged = carried_signer(store, message, at, fields, own);
+        return questions_for(store, m, judged);
+    }
+    let digest = m.headers.signer.digest;
+    let judged = named_signer(store, message, digest, fields, own);
+    questions_for(store, m, judged)
+}
+
+// The decision on a message with these parts, by what its signer's tests answered and the chip's verdicts.
+fn decision_for(m: MessageParts, judged: SignerJudged, verdict: u8, certified: u8) -> Decision
+    ensures { λ r. ⌜ r ≡ decidedFrom m judged verdict certified ⌝ }
+{
     let number = judged.number;
     if number != ACCEPTED {
         return undecided(number);
     }
-    if (judged.message.headers.signer.kind == 2) & (certified != 1) {
+    if (m.headers.signer.kind == CARRIED) & (certified != GOOD) {
         return undecided(BAD_SIGNATURE);
     }
-    if verdict != 1 {
+    if verdict != GOOD {
         return undecided(BAD_SIGNATURE);
     }
-    let payload = judged.message.payload;
+    let payload = m.payload;
     let signer = judged.signer.id;
     Decision {
         number: ACCEPTED,
         payload,
         signer,
-        permission: judged.message.headers.fields.aid.value,
-        generation: judged.message.headers.fields.generation.time,
+        permission: m.headers.fields.aid.value,
+        generation: m.headers.fields.generation.time,
     }
+}
+
+// Decides a message, by the chip's verdicts on its signature and on that of the certificate that it carries.
+fn decide_in(store: &[u8], message: &[u8], x: Situation, verdict: u8, certified: u8) -> Decision
+    ensures { λ r. ⌜ r ≡ decision (now (store .entry)) (now (message .entry)) x verdict certified ⌝ }
+{
+    let read = opened(store, message, x);
+    let MessageRead::Value {
+        message: m,
+        next: _,
+    } = read
+    else {
+        return undecided(read.refusal());
+    };
+    let own = Position {
+        latitude: x.latitude,
+        longitude: x.longitude,
+    };
+    let fields = m.headers.fields;
+    if m.headers.signer.kind == CARRIED {
+        let at = m.headers.signer.signed.start;
+        let judged = carried_signer(store, message, at, fields, own);
+        return decision_for(m, judged, verdict, certified);
+    }
+    let digest = m.headers.signer.digest;
+    let judged = named_signer(store, message, digest, fields, own);
+    decision_for(m, judged, verdict, certified)
 }
 
 // Gives the signature questions of a message. It refuses as `decide` with good verdicts.

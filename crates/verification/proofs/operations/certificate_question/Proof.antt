@@ -3,7 +3,8 @@ use mathlib.Core.Path.{sym, ap, _∙_}
 use borrow.Author.Tests.{eq-eqb, ne-eqb}
 use Rattle.store.specs.Search.{foundOf}
 use Rattle.store.proofs.Found.{find-finds}
-use Rattle.verification.specs.Order.{partsQuestion}
+use Rattle.signing.specs.Signers.{publicKey}
+use Rattle.verification.specs.Computed.{partsQuestion}
 use borrow.Author.Needs.{needs}
 use Rattle.verification.proofs.operations.certificate_question.Statement.{statement}
 use Rattle.verification.proofs.operations.certificate_question.Tie as tie
@@ -30,6 +31,9 @@ enum-known-slot c = search needs
 key-at-requires : tie.Need-key-at-requires
 key-at-requires c κs = (find-finds _ _ _ (sym (c .before .before .before .find-id .ensures) ∙ ap foundOf (c .before .slot .given .1)) .0, c .before .before .before .before .before .before .before .pre)
 
+public-key-requires : tie.Need-public-key-requires
+public-key-requires c κs = search needs
+
 question-of-requires : tie.Need-question-of-requires
 question-of-requires c κs = search needs
 
@@ -39,7 +43,9 @@ returns-2 c = rw (eq-eqb _ _ (c .before .before .before .before .if1 .left), sym
 
 returns-3 : tie.Need-returns-3
 unfolding partsQuestion
-returns-3 c = rw (eq-eqb _ _ (c .before .before .before .before .before .before .before .before .if1 .left), sym (c .before .before .before .before .before .before .before .find-id .ensures) ∙ ap foundOf (c .before .before .before .before .before .slot .given .1)) (rw (c .before .before .before .key-at .ensures) at (c .question-of .ensures))
+returns-3 c =
+    rw (eq-eqb _ _ (c .before .before .before .before .before .before .before .before .before .if1 .left), sym (c .before .before .before .before .before .before .before .before .find-id .ensures) ∙ ap foundOf (c .before .before .before .before .before .before .slot .given .1))
+    (rw (c .before .before .before .public-key .ensures ∙ ap publicKey (c .before .before .before .before .key-at .ensures .0)) at (c .question-of .ensures))
 
 pub certificate-question-spec : {M : Type 1} → statement M
 certificate-question-spec =
@@ -52,6 +58,7 @@ certificate-question-spec =
     no-question-requires-2
     enum-known-slot
     key-at-requires
+    public-key-requires
     question-of-requires
     returns-2
     returns-3)

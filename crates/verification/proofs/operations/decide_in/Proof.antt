@@ -1,77 +1,116 @@
--- By what the judgement passes on. Assumes nothing.
-use mathlib.Core.Path.{_≡_, refl, sym, _∙_}
-use mathlib.Core.Bool.{Bool, true, false, not, _&&_, _||_}
-use Prim.Native.Nat.{ℕ}
-use lib.Dec.{eqb}
-use borrow.Author.Tests.{eq-eqb, ne-eqb}
-use Rattle.geo.proofs.Bools.{never}
-use Rattle.order.specs.Steps.{gives, run}
-use Rattle.verification.specs.Order.{Passed, judging, judgedOf}
-use Rattle.verification.proofs.Decided.{passed-on, decided-stops, decided-certificate, decided-message, decided-passes}
+-- By what was opened, and then by the signer. Assumes nothing.
+use mathlib.Core.Path.{_≡_, sym, ap, _∙_}
+use native.Mathlib.Omega.{arith}
+use mir.Facts.{toZ-ofZ}
+use mir.Syntax.{w32}
+use mir.Val.{SFits}
+use Rattle.octets.specs.Reading.{refusalOf}
+use Rattle.message.specs.Parts.{messageOf}
+use Rattle.message.specs.declared.messages.MessageParts.{MessageParts}
+use Rattle.message.specs.declared.messages.MessageRead.{MessageRead}
+use Rattle.signing.specs.Computed.{signerOf}
+use Rattle.signing.specs.declared.signers.SignerJudged.{SignerJudged}
+use Rattle.verification.specs.Order.{ownPosition, undecided}
+use Rattle.verification.specs.Computed.{openedOf, decidedFrom}
+use Rattle.verification.proofs.Opened.{Opened, opened-to, decided-stops, decided-signed}
+use Rattle.verification.proofs.Signer.{carried-stands, carried-signs, named-inside, named-signs}
 use borrow.Author.Needs.{needs}
 use Rattle.verification.proofs.operations.decide_in.Statement.{statement}
 use Rattle.verification.proofs.operations.decide_in.Tie as tie
 
--- what was judged
-on : (c : tie.Else1) → let a = c .before .before .before .before .args in (p : Passed) × (run (judging (a .store .now) (a .message .now) (a .x)) ≡ gives p) × (c .before .judge .result ≡ judgedOf (gives p))
-on c = passed-on _ _ _ _ (c .before .judge .ensures) (c .if1 .left)
+-- the message that was opened
+message : (c : tie.After-known-told) → let a = c .before .before .before .before .before .before .args in Opened (a .store .now) (a .message .now) (a .x) (c .before .read .given .0 .0)
+message c = opened-to _ _ _ _ (sym (ap openedOf (c .before .read .given .1)) ∙ c .before .before .before .opened .ensures)
 
--- the test of the certificate's verdict
-unverified : (kind certified : ℕ) → (eqb kind 2 && not (eqb certified 1)) ≡ true → (not (eqb kind 2) || eqb certified 1) ≡ false
-unverified kind certified e = by (eqb kind 2) (eqb certified 1) e
-  where
-    by : (a b : Bool) → (a && not b) ≡ true → (not a || b) ≡ false
-    by true true e = sym e
-    by true false e = refl
-    by false b e = absurd (never e)
+-- its signer, whose certificate it carries
+carried : (c : tie.After-carried-signer) → let a = c .before .before .before .before .before .before .before .before .before .before .before .args in c .carried-signer .result ≡ signerOf (a .store .now) (a .message .now) (message (c .before .before .before .before .before) .message) (ownPosition (a .x))
+carried c =
+    let a = c .before .before .before .before .before .before .before .before .before .before .before .args in
+    let m = message (c .before .before .before .before .before) in
+    let latitude : SFits w32 (a .x .latitude) = search needs in
+    let longitude : SFits w32 (a .x .longitude) = search needs in
+    (rw (toZ-ofZ latitude, toZ-ofZ longitude) at (c .carried-signer .ensures))
+    ∙ carried-signs (a .message .now) (m .message) _ (m .reads) (m .parts) (λ i. omega (arith, c .before .before .before .before .before .before .before .before .before .shared-slice-known2 .given i)) (c .before .if1 .taken) (a .store .now) (ownPosition (a .x))
 
-verified : (kind certified : ℕ) → (eqb kind 2 && not (eqb certified 1)) ≡ false → (not (eqb kind 2) || eqb certified 1) ≡ true
-verified kind certified e = by (eqb kind 2) (eqb certified 1) e
-  where
-    by : (a b : Bool) → (a && not b) ≡ false → (not a || b) ≡ true
-    by true true e = refl
-    by true false e = sym e
-    by false b e = refl
+-- its signer, whom it names
+named : (c : tie.After-named-signer) → let a = c .before .before .before .before .before .before .before .before .before .before .before .before .args in c .named-signer .result ≡ signerOf (a .store .now) (a .message .now) (message (c .before .before .before .before .before .before) .message) (ownPosition (a .x))
+named c =
+    let a = c .before .before .before .before .before .before .before .before .before .before .before .before .args in
+    let m = message (c .before .before .before .before .before .before) in
+    let latitude : SFits w32 (a .x .latitude) = search needs in
+    let longitude : SFits w32 (a .x .longitude) = search needs in
+    (rw (toZ-ofZ latitude, toZ-ofZ longitude) at (c .named-signer .ensures))
+    ∙ named-signs (a .message .now) (m .message) _ (m .reads) (m .parts) (c .before .before .if1 .left) (a .store .now) (ownPosition (a .x))
 
-judge-requires : tie.Need-judge-requires
-judge-requires c κs = search needs
+opened-requires : tie.Need-opened-requires
+opened-requires c κs = search needs
+
+enum-known-read : tie.Need-enum-known-read
+enum-known-read c = search needs
+
+enum-told : tie.Need-enum-told
+enum-told c = search needs
+
+refusal-requires : tie.Need-refusal-requires
+refusal-requires c κs = search needs
 
 undecided-requires : tie.Need-undecided-requires
 undecided-requires c κs = search needs
 
 returns : tie.Need-returns
-returns c = c .undecided .ensures ∙ decided-stops _ _ _ _ _ _ (c .before .before .judge .ensures) (c .before .if1 .taken)
+returns c =
+    let told = c .before .before .enum-told .given .1 in
+    c .undecided .ensures ∙ ap undecided (c .before .refusal .ensures ∙ ap (λ (o : MessageRead). refusalOf (messageOf o)) told)
+    ∙ decided-stops _ _ _ _ _ _ (sym (ap openedOf told) ∙ c .before .before .before .before .opened .ensures)
 
-undecided-requires-2 : tie.Need-undecided-requires-2
-undecided-requires-2 c κs = search needs
+carried-signer-requires : tie.Need-carried-signer-requires
+carried-signer-requires c κs =
+    let m = message (c .before .before .before .before) in
+    (m .size, carried-stands _ (m .message) _ (m .reads) (m .parts) (λ i. omega (arith, c .before .before .before .before .before .before .before .before .shared-slice-known2 .given i)) (c .if1 .taken))
+
+decision-for-requires : tie.Need-decision-for-requires
+decision-for-requires c κs = search needs
 
 returns-2 : tie.Need-returns-2
 returns-2 c =
-    let p = on (c .before .before .before) in
-    c .undecided2 .ensures ∙ decided-certificate (c .before .before .before .before .before .before .before .args .store .now) (c .before .before .before .before .before .before .before .args .message .now) (c .before .before .before .before .before .before .before .args .x) (c .before .before .before .before .before .before .before .args .verdict) (c .before .before .before .before .before .before .before .args .certified) (p .0) (p .1) (rw (p .2) at (unverified (c .before .before .before .before .judge .result .message .headers .signer .kind) (c .before .before .before .before .before .before .before .args .certified) (c .before .if2 .taken)))
+    let a = c .before .before .before .before .before .before .before .before .before .before .before .before .args in
+    let m = message (c .before .before .before .before .before .before) in
+    c .decision-for .ensures
+    ∙ ap (λ (s : SignerJudged). decidedFrom (c .before .before .before .before .before .before .before .read .given .0 .0) s (c .before .before .before .before .before .before .before .before .before .before .before .before .args .verdict) (c .before .before .before .before .before .before .before .before .before .before .before .before .args .certified)) (carried (c .before))
+    ∙ ap (λ (p : MessageParts). decidedFrom p (signerOf (a .store .now) (a .message .now) (m .message) (ownPosition (a .x))) (c .before .before .before .before .before .before .before .before .before .before .before .before .args .verdict) (c .before .before .before .before .before .before .before .before .before .before .before .before .args .certified)) (sym (m .parts))
+    ∙ decided-signed (a .store .now) (a .message .now) (a .x) (c .before .before .before .before .before .before .before .before .before .before .before .before .args .verdict) (c .before .before .before .before .before .before .before .before .before .before .before .before .args .certified) (m .message) (m .given)
 
-undecided-requires-3 : tie.Need-undecided-requires-3
-undecided-requires-3 c κs = search needs
+named-signer-requires : tie.Need-named-signer-requires
+named-signer-requires c κs =
+    let m = message (c .before .before .before .before .before) in
+    let inside = named-inside _ (m .message) _ (m .reads) (m .parts) (c .before .if1 .left) in
+    (m .size, inside .0, inside .1)
+
+decision-for-requires-2 : tie.Need-decision-for-requires-2
+decision-for-requires-2 c κs = search needs
 
 returns-3 : tie.Need-returns-3
 returns-3 c =
-    let p = on (c .before .before .before .before) in
-    c .undecided3 .ensures ∙ decided-message (c .before .before .before .before .before .before .before .before .args .store .now) (c .before .before .before .before .before .before .before .before .args .message .now) (c .before .before .before .before .before .before .before .before .args .x) (c .before .before .before .before .before .before .before .before .args .verdict) (c .before .before .before .before .before .before .before .before .args .certified) (p .0) (p .1) (rw (p .2) at (verified (c .before .before .before .before .before .judge .result .message .headers .signer .kind) (c .before .before .before .before .before .before .before .before .args .certified) (c .before .before .if2 .left))) (ne-eqb _ _ (c .before .if3 .taken))
-
-returns-4 : tie.Need-returns-4
-returns-4 c =
-    let p = on (c .before .before .before .before .before) in
-    rw (p .2) (decided-passes (c .before .before .before .before .before .before .before .before .before .args .store .now) (c .before .before .before .before .before .before .before .before .before .args .message .now) (c .before .before .before .before .before .before .before .before .before .args .x) (c .before .before .before .before .before .before .before .before .before .args .verdict) (c .before .before .before .before .before .before .before .before .before .args .certified) (p .0) (p .1) (rw (p .2) at (verified (c .before .before .before .before .before .before .judge .result .message .headers .signer .kind) (c .before .before .before .before .before .before .before .before .before .args .certified) (c .before .before .before .if2 .left))) (eq-eqb _ _ (c .before .before .if3 .left)))
+    let a = c .before .before .before .before .before .before .before .before .before .before .before .before .before .args in
+    let m = message (c .before .before .before .before .before .before .before) in
+    c .decision-for2 .ensures
+    ∙ ap (λ (s : SignerJudged). decidedFrom (c .before .before .before .before .before .before .before .before .read .given .0 .0) s (c .before .before .before .before .before .before .before .before .before .before .before .before .before .args .verdict) (c .before .before .before .before .before .before .before .before .before .before .before .before .before .args .certified)) (named (c .before))
+    ∙ ap (λ (p : MessageParts). decidedFrom p (signerOf (a .store .now) (a .message .now) (m .message) (ownPosition (a .x))) (c .before .before .before .before .before .before .before .before .before .before .before .before .before .args .verdict) (c .before .before .before .before .before .before .before .before .before .before .before .before .before .args .certified)) (sym (m .parts))
+    ∙ decided-signed (a .store .now) (a .message .now) (a .x) (c .before .before .before .before .before .before .before .before .before .before .before .before .before .args .verdict) (c .before .before .before .before .before .before .before .before .before .before .before .before .before .args .certified) (m .message) (m .given)
 
 pub decide-in-spec : {M : Type 1} → statement M
 decide-in-spec =
     tie.close
     (tie.spec
-    judge-requires
+    opened-requires
+    enum-known-read
+    enum-told
+    refusal-requires
     undecided-requires
     returns
-    undecided-requires-2
+    carried-signer-requires
+    decision-for-requires
     returns-2
-    undecided-requires-3
-    returns-3
-    returns-4)
+    named-signer-requires
+    decision-for-requires-2
+    returns-3)
