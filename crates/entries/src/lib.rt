@@ -16,6 +16,7 @@ use bitfields::reading::window;
 use certificate::certificates::restrictions_of;
 use certificate::outlines::Outline;
 use octets::buffers::write_front;
+use octets::kinds::TICKET;
 use octets::vectors::Part;
 use records::Key;
 use records::Name;
@@ -73,7 +74,7 @@ fn scope_from(s: &[u8], o: Outline) -> Scope
     let restrictions = restrictions_of(s, o.restrictions);
     let region = restrictions.area.region;
     let end = o.attributes.list.end;
-    let permissions = aids_in(&s[..end], o.attributes.list.start, o.head.kind == 1);
+    let permissions = aids_in(&s[..end], o.attributes.list.start, o.head.kind == TICKET);
     Scope {
         kind: o.head.kind,
         start: restrictions.period.start,

@@ -5,8 +5,9 @@ use Prim.Native.Nat.{ℕ, zero, suc, _+_, _*_, _/_, _%_, _^_, _≤_, _<_}
 use native.Mathlib.Nat.{not-suc-le-zero}
 use native.Mathlib.Omega.{arith}
 use lib.ListN.{length, getD, set}
-use lib.Seq.{paste, take-all}
+use lib.Seq.{paste}
 use Rattle.octets.proofs.Pasted.{paste-next}
+use Rattle.octets.proofs.Buffered.{octets-pasted}
 use Rattle.field_words.specs.Words.{wordOctets, wordsOctets, withWords}
 
 pub words-length : (ws : List ℕ) → length (wordsOctets ws) ≡ 4 * length ws
@@ -50,4 +51,6 @@ paste-word d at ws i b h r e =
 -- all words
 pub paste-words : (d : List ℕ) (at : ℕ) (ws : List ℕ) (i : ℕ) → i ≡ length ws → paste d (4 * at) (wordsOctets ws) (4 * i) ≡ withWords at ws d
 unfolding withWords
-paste-words d at ws i e = rw (e, take-all (4 * length ws) (wordsOctets ws) (omega (arith, words-length ws)))
+paste-words d at ws i e =
+    let all : 4 * i ≡ length (wordsOctets ws) = omega (arith, words-length ws) in
+    ap (paste d (4 * at) (wordsOctets ws)) all ∙ octets-pasted d (4 * at) (wordsOctets ws)

@@ -1,7 +1,7 @@
 -- Words in a buffer: each in four octets, the most significant first.
-use Prim.Native.Nat.{ℕ, _+_, _*_, _/_, _%_, _^_}
+use Prim.Native.Nat.{ℕ, _*_, _/_, _%_, _^_}
 use mathlib.Core.List.{List, [], _∷_, _++_}
-use lib.ListN.{length, take, drop}
+use Rattle.octets.specs.Buffers.{withOctets}
 
 abbrev pub wordOctets : ℕ → List ℕ
 wordOctets w = w / 2 ^ 24 % 256 ∷ w / 2 ^ 16 % 256 ∷ w / 2 ^ 8 % 256 ∷ w % 256 ∷ []
@@ -12,4 +12,4 @@ wordsOctets (w ∷ ws) = wordOctets w ++ wordsOctets ws
 
 -- these words from word number `at` on; all other octets stay
 unfoldable pub withWords : ℕ → List ℕ → List ℕ → List ℕ
-withWords at ws l = take (4 * at) l ++ wordsOctets ws ++ drop (4 * at + 4 * length ws) l
+withWords at ws l = withOctets l (4 * at) (wordsOctets ws)

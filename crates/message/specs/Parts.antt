@@ -4,9 +4,7 @@ use mathlib.Core.Bool.{Bool, not, _&&_}
 use lib.Dec.{eqb}
 use Rattle.octets.specs.Reading.{Out, got, refused}
 use Rattle.octets.specs.Vectors.{nowhere}
-use Rattle.headers.specs.Times.{undated, unexpiring}
-use Rattle.headers.specs.Locations.{unlocated}
-use Rattle.headers.specs.Aids.{unnamed}
+use Rattle.headers.specs.Fields.{noFields}
 use Rattle.message.specs.Signers.{Signer}
 use Rattle.message.specs.Vectors.{Headers}
 use Rattle.message.specs.Messages.{Message}
@@ -47,14 +45,15 @@ messageOf (message.Refused n) = refused n
 abbrev pub completeParts : HeaderParts → Bool
 completeParts h = not (eqb (h .signer .kind) 0) && h .fields .generation .given && h .fields .aid .given
 
+-- no signer: the parts of `unsigned`
+abbrev pub noSigner : SignerParts
+noSigner = record { kind = 0; digest = nowhere; signed = nowhere; signature = nowhere }
+
 -- the parts of a refusal
 unfoldable pub noParts : MessageParts
 noParts =
     record {
-      headers = record {
-        signer = record { kind = 0; digest = nowhere; signed = nowhere; signature = nowhere };
-        fields = record { generation = undated; expiration = unexpiring; location = unlocated; aid = unnamed };
-      };
+      headers = record { signer = noSigner; fields = noFields };
       payload = nowhere;
       signed = nowhere;
       signature = record { kind = 0; octets = nowhere };

@@ -4,24 +4,21 @@ ghost use Rattle.message.specs.Messages.{wholeMessage};
 ghost use Rattle.message.specs.Parts.{messageOf, messageParts, noParts};
 use crate::bodies::payload_at;
 use crate::bodies::trailer_at;
-use crate::signers::SignerParts;
+use crate::signers::no_signer;
 use crate::vectors::HeaderParts;
 use crate::vectors::HeadersRead;
 use crate::vectors::complete;
 use crate::vectors::headers_at;
 use certificate::signatures::Signature;
 use certificate::signatures::SignatureRead;
-use headers::aids::Aid;
-use headers::fields::Fields;
-use headers::locations::Location;
-use headers::times::Expiration;
-use headers::times::Generation;
+use headers::fields::no_fields;
 use octets::elements::exactly_at;
 use octets::refusals::MALFORMED;
 use octets::refusals::TOO_LONG;
 use octets::vectors::Next;
 use octets::vectors::Part;
 use octets::vectors::Span;
+use octets::vectors::nowhere;
 
 // What a message says; of a certificate that it carries, where its parts stand. Parts are octets of what the caller passed.
 pub struct MessageParts {
@@ -56,43 +53,17 @@ impl MessageRead {
 pub fn no_parts() -> MessageParts
     ensures { λ r. ⌜ r ≡ noParts ⌝ }
 {
-    let nowhere = Part {
-        start: 0,
-        length: 0,
-    };
+    let none = nowhere();
     MessageParts {
         headers: HeaderParts {
-            signer: SignerParts {
-                kind: 0,
-                digest: nowhere,
-                signed: nowhere,
-                signature: nowhere,
-            },
-            fields: Fields {
-                generation: Generation {
-                    given: false,
-                    time: 0,
-                },
-                expiration: Expiration {
-                    given: false,
-                    second: 0,
-                },
-                location: Location {
-                    given: false,
-                    latitude: 0,
-                    longitude: 0,
-                },
-                aid: Aid {
-                    given: false,
-                    value: 0,
-                },
-            },
+            signer: no_signer(),
+            fields: no_fields(),
         },
-        payload: nowhere,
-        signed: nowhere,
+        payload: none,
+        signed: none,
         signature: Signature {
             kind: 0,
-            octets: nowhere,
+            octets: none,
         },
     }
 }

@@ -1,7 +1,7 @@
 ghost use mathlib.Core.Path.{_≡_};
 ghost use Rattle.octets.specs.Reading.{refusalOf, kept};
 ghost use Rattle.message.specs.Signers.{namedAt, carriedAt, signerInfoAt, signerAt};
-ghost use Rattle.message.specs.Parts.{signerOf, signerParts};
+ghost use Rattle.message.specs.Parts.{signerOf, signerParts, noSigner};
 use certificate::outlines::OutlineRead;
 use certificate::outlines::outline_at;
 use headers::fields::stray;
@@ -10,6 +10,7 @@ use octets::numbers::octet_at;
 use octets::refusals::UNSUPPORTED;
 use octets::vectors::Part;
 use octets::vectors::Span;
+use octets::vectors::nowhere;
 use octets::vectors::run_at;
 
 // The types of a signer (001, clause 4.2.11) that are read: an id, or a certificate.
@@ -44,22 +45,32 @@ impl SignerRead {
     }
 }
 
+// Nobody is named.
+pub fn no_signer() -> SignerParts
+    ensures { λ r. ⌜ r ≡ noSigner ⌝ }
+{
+    let none = nowhere();
+    SignerParts {
+        kind: 0,
+        digest: none,
+        signed: none,
+        signature: none,
+    }
+}
+
 // The 8 octets of an id.
 fn named_at(s: &[u8], at: usize) -> SignerRead
     ensures { λ r. ⌜ signerOf r ≡ kept signerParts (namedAt (now (s .entry)) at) ⌝ }
 {
-    let nowhere = Part {
-        start: 0,
-        length: 0,
-    };
+    let none = nowhere();
     match run_at(s, at, 8) {
         Span::Refused(n) => SignerRead::Refused(n),
         Span::Within { start, end } => SignerRead::Value {
             signer: SignerParts {
                 kind: 1,
                 digest: Part { start, length: 8 },
-                signed: nowhere,
-                signature: nowhere,
+                signed: none,
+                signature: none,
             },
             next: end,
         },
@@ -79,10 +90,7 @@ fn carried_at(s: &[u8], at: usize) -> SignerRead
     SignerRead::Value {
         signer: SignerParts {
             kind: 2,
-            digest: Part {
-                start: 0,
-                length: 0,
-            },
+            digest: nowhere(),
             signed,
             signature,
         },
@@ -113,17 +121,8 @@ pub fn signer_at(s: &[u8], at: usize) -> SignerRead
     ensures { λ r. ⌜ signerOf r ≡ kept signerParts (signerAt (now (s .entry)) at) ⌝ }
 {
     if s.len() <= at {
-        let nowhere = Part {
-            start: 0,
-            length: 0,
-        };
         return SignerRead::Value {
-            signer: SignerParts {
-                kind: 0,
-                digest: nowhere,
-                signed: nowhere,
-                signature: nowhere,
-            },
+            signer: no_signer(),
             next: at,
         };
     }

@@ -2,6 +2,7 @@
 use mathlib.Core.Path.{refl}
 use mathlib.Core.Bool.{true}
 use native.Mathlib.Omega.{arith}
+use Rattle.octets.specs.Coordinates.{latitudeLimit, longitudeLimit}
 use Rattle.headers.specs.Locations.{placeAt}
 use Rattle.writing.specs.Exactly.{Exact}
 use Rattle.writing.proofs.Coordinates.{latitude-exact, longitude-exact}
@@ -21,12 +22,12 @@ place-exact =
     last (λ b elevation n. record { given = true; latitude = latitude; longitude = longitude }) (before (run-exact 2 (omega arith)))))) (λ p rest g. (tt, (tt, tt))))
     (record {
       to = λ l. (l .latitude, (l .longitude, l .elevation));
-      good = λ l g. (within-test 900000000 (l .latitude) (g .latitude), (within-test 1800000000 (l .longitude) (g .longitude), g .elevation));
+      good = λ l g. (within-test latitudeLimit (l .latitude) (g .latitude), (within-test longitudeLimit (l .longitude) (g .longitude), g .elevation));
       writes = λ l g. refl;
       values = λ at l g. refl;
       onto = λ x g. (
         record { latitude = x .0; longitude = x .1 .0; elevation = x .1 .1 },
-        record { latitude = test-within 900000000 (x .0) (g .0); longitude = test-within 1800000000 (x .1 .0) (g .1 .0); elevation = g .1 .1 },
+        record { latitude = test-within latitudeLimit (x .0) (g .0); longitude = test-within longitudeLimit (x .1 .0) (g .1 .0); elevation = g .1 .1 },
         refl,
       );
     })

@@ -2,6 +2,7 @@
 use Prim.Native.Nat.{ℕ, _^_, _≤_, _<_}
 use mathlib.Core.List.{List}
 use lib.ListN.{length}
+use Rattle.octets.specs.Coordinates.{latitudeLimit, longitudeLimit}
 use Rattle.writing.specs.Written.{Octets}
 use Rattle.writing.specs.Elements.{IfThere}
 use Rattle.writing.specs.Items.{Each}
@@ -26,8 +27,8 @@ pub record WellFormedDeviation (d : Deviation) : Type 0 where
 
 -- a place, and two octets
 pub record WellFormedLocation (l : Location) : Type 0 where
-  pub latitude : Within 900000000 (l .latitude)
-  pub longitude : Within 1800000000 (l .longitude)
+  pub latitude : Within latitudeLimit (l .latitude)
+  pub longitude : Within longitudeLimit (l .longitude)
   pub elevation : Opaque 2 (l .elevation)
 
 -- 3 octets each; there may be none

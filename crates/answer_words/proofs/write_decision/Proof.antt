@@ -14,11 +14,11 @@ slice-aggregate-write-words c = search needs
 write-words-requires : tie.Need-write-words-requires
 write-words-requires c κs = search needs
 
-slice-aggregate-write-text : tie.Need-slice-aggregate-write-text
-slice-aggregate-write-text c = search needs
+slice-aggregate-write-octets : tie.Need-slice-aggregate-write-octets
+slice-aggregate-write-octets c = search needs
 
-write-text-requires : tie.Need-write-text-requires
-write-text-requires c κs = let o : length (c .before .before .before .before .before .before .before .before .before .args .d .signer) ≡ 8 = search needs in omega arith
+write-octets-requires : tie.Need-write-octets-requires
+write-octets-requires c κs = let o : length (c .before .before .before .before .before .before .before .before .before .args .d .signer) ≡ 8 = search needs in omega arith
 
 cast-t6 : tie.Need-cast-t6
 cast-t6 c = search needs
@@ -37,7 +37,7 @@ unfolding withDecision
 returns c =
     let a = c .before .before .before .before .before .before .before .before .before .before .before .before .before .before .before .before .before .before .before .args in
     let o : length (a .d .signer) ≡ 8 = search (needs, c .before .before .before .before .before .before .before .before .before .before .before .before .before .before .before .before .before .before .before .good .1 .0) in
-    decision-written (a .buffer .now) _ (a .d .signer) _ (c .before .before .before .before .before .before .before .before .before .before .before .before .before .before .before .write-words .ensures) (c .before .before .before .before .before .before .before .before .before .write-text .ensures) (c .before .before .write-words2 .ensures) refl o refl (omega arith)
+    decision-written (a .buffer .now) _ (a .d .signer) _ (c .before .before .before .before .before .before .before .before .before .before .before .before .before .before .before .write-words .ensures) (c .before .before .before .before .before .before .before .before .before .write-octets .ensures) (c .before .before .write-words2 .ensures) refl o refl (omega arith)
 
 pub write-decision-spec : {M : Type 1} → statement M
 write-decision-spec =
@@ -45,8 +45,8 @@ write-decision-spec =
     (tie.spec
     slice-aggregate-write-words
     write-words-requires
-    slice-aggregate-write-text
-    write-text-requires
+    slice-aggregate-write-octets
+    write-octets-requires
     cast-t6
     slice-aggregate-write-words-2
     write-words-requires-2

@@ -16,17 +16,17 @@ slice-aggregate-write-words c = search needs
 write-words-requires : tie.Need-write-words-requires
 write-words-requires c κs = search needs
 
-mul-write-text : tie.Need-mul-write-text
-mul-write-text c = search needs
+mul-write-octets : tie.Need-mul-write-octets
+mul-write-octets c = search needs
 
-add-write-text : tie.Need-add-write-text
-add-write-text c = search needs
+add-write-octets : tie.Need-add-write-octets
+add-write-octets c = search needs
 
-slice-aggregate-write-text : tie.Need-slice-aggregate-write-text
-slice-aggregate-write-text c = search needs
+slice-aggregate-write-octets : tie.Need-slice-aggregate-write-octets
+slice-aggregate-write-octets c = search needs
 
-write-text-requires : tie.Need-write-text-requires
-write-text-requires c κs = let o : length (c .before .before .before .before .before .before .before .before .before .before .args .q .key) ≡ 32 = search needs in omega arith
+write-octets-requires : tie.Need-write-octets-requires
+write-octets-requires c κs = let o : length (c .before .before .before .before .before .before .before .before .before .before .args .q .key) ≡ 32 = search needs in omega arith
 
 same-length : tie.Need-same-length
 same-length c = search needs
@@ -35,7 +35,7 @@ returns : tie.Need-returns
 returns c =
     let a = c .before .before .before .before .before .before .before .before .before .before .before .before .before .args in
     let o : length (a .q .key) ≡ 32 = search needs in
-    question-written (a .buffer .now) (a .at) _ (a .q .key) (c .before .before .before .before .before .before .before .before .write-words .ensures) (c .before .before .write-text .ensures) (omega arith)
+    question-written (a .buffer .now) (a .at) _ (a .q .key) (c .before .before .before .before .before .before .before .before .write-words .ensures) (c .before .before .write-octets .ensures) (omega arith)
 
 pub write-question-spec : {M : Type 1} → statement M
 write-question-spec =
@@ -44,9 +44,9 @@ write-question-spec =
     cast-t10
     slice-aggregate-write-words
     write-words-requires
-    mul-write-text
-    add-write-text
-    slice-aggregate-write-text
-    write-text-requires
+    mul-write-octets
+    add-write-octets
+    slice-aggregate-write-octets
+    write-octets-requires
     same-length
     returns)
