@@ -4,7 +4,6 @@ use mathlib.Core.Bool.{Bool, not, _&&_}
 use lib.Dec.{eqb}
 use Rattle.octets.specs.Reading.{Out, got, refused}
 use Rattle.octets.specs.Vectors.{nowhere}
-use Rattle.headers.specs.Fields.{noFields}
 use Rattle.message.specs.Signers.{Signer}
 use Rattle.message.specs.Vectors.{Headers}
 use Rattle.message.specs.Messages.{Message}
@@ -48,13 +47,3 @@ completeParts h = not (eqb (h .signer .kind) 0) && h .fields .generation .given 
 -- no signer: the parts of `unsigned`
 abbrev pub noSigner : SignerParts
 noSigner = record { kind = 0; digest = nowhere; signed = nowhere; signature = nowhere }
-
--- the parts of a refusal
-unfoldable pub noParts : MessageParts
-noParts =
-    record {
-      headers = record { signer = noSigner; fields = noFields };
-      payload = nowhere;
-      signed = nowhere;
-      signature = record { kind = 0; octets = nowhere };
-    }

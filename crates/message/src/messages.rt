@@ -1,24 +1,21 @@
 ghost use mathlib.Core.Path.{_≡_};
 ghost use Rattle.octets.specs.Reading.{refusalOf, kept};
 ghost use Rattle.message.specs.Messages.{wholeMessage};
-ghost use Rattle.message.specs.Parts.{messageOf, messageParts, noParts};
+ghost use Rattle.message.specs.Parts.{messageOf, messageParts};
 use crate::bodies::payload_at;
 use crate::bodies::trailer_at;
-use crate::signers::no_signer;
 use crate::vectors::HeaderParts;
 use crate::vectors::HeadersRead;
 use crate::vectors::complete;
 use crate::vectors::headers_at;
 use certificate::signatures::Signature;
 use certificate::signatures::SignatureRead;
-use headers::fields::no_fields;
 use octets::elements::exactly_at;
 use octets::refusals::MALFORMED;
 use octets::refusals::TOO_LONG;
 use octets::vectors::Next;
 use octets::vectors::Part;
 use octets::vectors::Span;
-use octets::vectors::nowhere;
 
 // What a message says; of a certificate that it carries, where its parts stand. Parts are octets of what the caller passed.
 pub struct MessageParts {
@@ -46,25 +43,6 @@ impl MessageRead {
             } => 0,
             MessageRead::Refused(n) => n,
         }
-    }
-}
-
-// The parts of a refusal: all values are zero.
-pub fn no_parts() -> MessageParts
-    ensures { λ r. ⌜ r ≡ noParts ⌝ }
-{
-    let none = nowhere();
-    MessageParts {
-        headers: HeaderParts {
-            signer: no_signer(),
-            fields: no_fields(),
-        },
-        payload: none,
-        signed: none,
-        signature: Signature {
-            kind: 0,
-            octets: none,
-        },
     }
 }
 
