@@ -5,6 +5,7 @@ use mathlib.Core.Bool.{true, false}
 use mathlib.Core.Logic.{_⊎_}
 use mathlib.Core.List.{List}
 use lib.ListN.{length}
+use Rattle.octets.specs.Verdicts.{GOOD}
 use Rattle.octets.specs.Kinds.{TICKET, AUTHORITY, ROOT}
 use Rattle.certificate.specs.Operations.{readingOf}
 use Rattle.certificate.specs.declared.certificates.Certificate.{Certificate}
@@ -31,7 +32,7 @@ pub record Entered (store octets : List ℕ) (verdict : ℕ) (certificate : Cert
   pub valid : Valid store
   pub reads : readingOf octets ≡ accepted certificate
   pub not-held : (i : ℕ) → ¬ (Holds store (number (recordFrom octets certificate .id)) i)
-  pub verified : verdict ≡ 1
+  pub verified : verdict ≡ GOOD
   pub slot : ℕ
   pub lowest-empty : LowestEmpty store slot
   pub written : after ≡ withSlot store slot (imageOf (recordFrom octets certificate))

@@ -9,6 +9,7 @@ use Rattle.order.specs.Steps.{Answer, gives, refused, Steps, done, need, take, 
 use Rattle.octets.specs.Kinds.{TICKET, AUTHORITY, ROOT}
 use Rattle.octets.specs.Refusals.{ACCEPTED, BAD-CALL, BAD-STORE, UNKNOWN, WITHDRAWN, WRONG-KIND, BAD-SIGNATURE, FULL, ALREADY-HELD}
 use Rattle.octets.specs.Reading.{pick}
+use Rattle.octets.specs.Verdicts.{GOOD}
 use Rattle.certificate.specs.Operations.{whole}
 use Rattle.bitfields.specs.Field.{number}
 use Rattle.scope.specs.Issued.{issuedRows}
@@ -48,7 +49,7 @@ abbrev pub testing : Bool → List ℕ → Record → ℕ → Steps Well
 testing anchor store r verdict =
     need ALREADY-HELD (absent (find store (number (r .id))))
     (take (run (issuerSteps anchor store r)) (λ w.
-    need BAD-SIGNATURE (eqb verdict 1)
+    need BAD-SIGNATURE (eqb verdict GOOD)
     (done well)))
 
 -- what comes of it is the new store: the record in the lowest empty slot

@@ -23,6 +23,7 @@ use octets::refusals::BAD_SIGNATURE;
 use octets::refusals::BAD_STORE;
 use octets::refusals::FULL;
 use octets::refusals::WRONG_KIND;
+use octets::verdicts::GOOD;
 use records::Record;
 use store::search::Found;
 use store::search::empty_slot;
@@ -78,7 +79,7 @@ fn test_number(store: &[u8], r: Record, verdict: u8, anchor: bool) -> u8
     if refusal != ACCEPTED {
         return refusal;
     }
-    if verdict != 1 {
+    if verdict != GOOD {
         return BAD_SIGNATURE;
     }
     ACCEPTED

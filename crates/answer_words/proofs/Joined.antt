@@ -37,7 +37,7 @@ decision-written l ws s vs {m} {n} e f g two eight three room =
 
 question-long : (q : Question) → length (q .key) ≡ 32 → length (questionOctets q) ≡ questionLength
 question-long q e =
-    let ws = q .signed .start ∷ q .signed .length ∷ q .signature .start ∷ q .signature .length ∷ q .kind ∷ [] in
+    let ws = q .signed .start ∷ q .signed .length ∷ q .signature .start ∷ q .signature .length ∷ q .form ∷ [] in
     omega (arith, length-append (wordsOctets ws) (q .key), words-length ws)
 
 -- one question, then the other

@@ -41,7 +41,7 @@ decisionOctets d =
 -- signed range, signature, point type; the key
 abbrev pub questionOctets : Question → List ℕ
 questionOctets q =
-    wordsOctets (q .signed .start ∷ q .signed .length ∷ q .signature .start ∷ q .signature .length ∷ q .kind ∷ [])
+    wordsOctets (q .signed .start ∷ q .signed .length ∷ q .signature .start ∷ q .signature .length ∷ q .form ∷ [])
     ++ q .key
 
 -- the message's question, then the certificate's

@@ -48,7 +48,7 @@ fn write_question(buffer: &mut [u8], at: usize, q: Question)
         q.signed.length as u64,
         q.signature.start as u64,
         q.signature.length as u64,
-        q.kind as u64,
+        q.form as u64,
     ];
     write_words(buffer, at, &words);
     let key = q.key;

@@ -135,7 +135,7 @@ pub fn record_from(s: &[u8], o: Outline) -> Record
             octets: name,
         },
         key: Key {
-            parity: o.attributes.key.kind - 2,
+            parity: o.attributes.key.form - 2,
             octets: key,
         },
     }

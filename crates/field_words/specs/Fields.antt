@@ -27,10 +27,10 @@ flagOf b = pick b 1 0
 -- signer, issuer, kind, name
 abbrev pub headWords : Head → List ℕ
 headWords h =
-    h .signer .kind ∷ h .signer .digest .start ∷ h .signer .digest .length ∷ h .kind ∷ h .name .start ∷ h .name .length ∷ []
+    h .signer .form ∷ h .signer .digest .start ∷ h .signer .digest .length ∷ h .kind ∷ h .name .start ∷ h .name .length ∷ []
 
 abbrev pub keyWords : Point → List ℕ
-keyWords p = p .kind ∷ p .octets .start ∷ p .octets .length ∷ []
+keyWords p = p .form ∷ p .octets .start ∷ p .octets .length ∷ []
 
 abbrev pub assuranceWords : Assurance → List ℕ
 assuranceWords a = flagOf (a .given) ∷ a .level ∷ []
@@ -52,7 +52,7 @@ cellOf which p = pick (eqb which 0) (p .aid) (pick (eqb which 1) (p .ssp .start)
 -- the signed range, the signature and its point type
 abbrev pub signatureWords : Part → Signature → List ℕ
 signatureWords signed signature =
-    signed .start ∷ signed .length ∷ signature .octets .start ∷ signature .octets .length ∷ signature .kind ∷ []
+    signed .start ∷ signed .length ∷ signature .octets .start ∷ signature .octets .length ∷ signature .form ∷ []
 
 -- a buffer with the fields of a certificate: 90 words, in sections that do not meet
 unfoldable pub withRectangles : List Rectangle → List ℕ → List ℕ

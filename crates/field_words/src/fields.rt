@@ -22,7 +22,7 @@ fn head_words(h: Head) -> [u64; 6]
     ensures { λ r. ⌜ r ≡ headWords h ⌝ }
 {
     [
-        h.signer.kind as u64,
+        h.signer.form as u64,
         h.signer.digest.start as u64,
         h.signer.digest.length as u64,
         h.kind as u64,
@@ -35,7 +35,7 @@ fn head_words(h: Head) -> [u64; 6]
 fn key_words(p: Point) -> [u64; 3]
     ensures { λ r. ⌜ r ≡ keyWords p ⌝ }
 {
-    [p.kind as u64, p.octets.start as u64, p.octets.length as u64]
+    [p.form as u64, p.octets.start as u64, p.octets.length as u64]
 }
 
 // Words 12 and 13.
@@ -107,7 +107,7 @@ fn signature_words(signed: Part, signature: Signature) -> [u64; 5]
         signed.length as u64,
         signature.octets.start as u64,
         signature.octets.length as u64,
-        signature.kind as u64,
+        signature.form as u64,
     ]
 }
 

@@ -100,7 +100,7 @@ module _ (s : List ℕ) (end : ℕ) (inside : end ≤ length s) where
       by-type a false two e = carried-by a g n (need-got 6 two _ e .1)
 
   -- a signer that is not lacking
-  signer-by : (at : ℕ) (g : Signer) (n : ℕ) → signerAt (take end s) at ≡ got g n → not (eqb (g .kind) 0) ≡ true → SignedBy s g
+  signer-by : (at : ℕ) (g : Signer) (n : ℕ) → signerAt (take end s) at ≡ got g n → not (eqb (g .form) 0) ≡ true → SignedBy s g
   unfolding signerAt unsigned
   signer-by at g n h there = by-test (ltb at (length (take end s))) h
     where
@@ -109,9 +109,9 @@ module _ (s : List ℕ) (end : ℕ) (inside : end ≤ length s) where
 
       by-test : (t : Bool) → pick t (need (strayOf (getD c at 0)) (eqb (getD c at 0) 128) (signerInfoAt c (at + 1))) (got unsigned at) ≡ got g n → SignedBy s g
       by-test true e = signed-by (at + 1) g n (need-got (strayOf (getD c at 0)) (eqb (getD c at 0) 128) _ e .1)
-      by-test false e = absurd (subst T (sym (ap (λ (x : Signer). not (eqb (x .kind) 0)) (same e .0) ∙ there)) tt)
+      by-test false e = absurd (subst T (sym (ap (λ (x : Signer). not (eqb (x .form) 0)) (same e .0) ∙ there)) tt)
 
-headers-by : (s : List ℕ) (at : ℕ) (x : Headers) (n : ℕ) → headersAt s at ≡ got x n → not (eqb (x .signer .kind) 0) ≡ true → SignedBy s (x .signer)
+headers-by : (s : List ℕ) (at : ℕ) (x : Headers) (n : ℕ) → headersAt s at ≡ got x n → not (eqb (x .signer .form) 0) ≡ true → SignedBy s (x .signer)
 unfolding headersAt headersIn
 headers-by s at x n h there =
     let p = bind-got (spanAt s at) _ h in
@@ -172,7 +172,7 @@ known s m next h =
     let j = trailer-inside s (t .1) (u .0) (u .1) (u .2) in
     let v = need-got 5 (leb (length s) (u .1)) _ (u .3) in
     let e = same (v .1) in
-    let k = all-three (not (eqb (x .signer .kind) 0)) (x .fields .generation .given) (x .fields .aid .given) (i .0) in (
+    let k = all-three (not (eqb (x .signer .form) 0)) (x .fields .generation .given) (x .fields .aid .given) (i .0) in (
       subst (λ (y : Message). Inside s y) (e .0)
           (record {
             short = leb-true (length s) 2048 (p .0);

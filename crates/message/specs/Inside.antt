@@ -7,18 +7,18 @@ use lib.ListN.{length, take}
 use Rattle.octets.specs.Reading.{got}
 use Rattle.octets.specs.Vectors.{part, nowhere}
 use Rattle.certificate.specs.Certificates.{certificateAt}
-use Rattle.message.specs.Signers.{Signer}
+use Rattle.message.specs.Signers.{Signer, CARRIED, NAMED}
 use Rattle.message.specs.Messages.{Message}
 
 -- an id, of 8 octets of the message
 pub record ById (s : List ℕ) (signer : Signer) : Type 0 where
-  pub type : signer .kind ≡ 1
+  pub type : signer .form ≡ NAMED
   pub eight : signer .digest .length ≡ 8
   pub within : signer .digest .start + 8 ≤ length s
 
 -- a certificate, which was read in the header vector: from octet `first` up to `after`; the vector ends at `end`
 pub record ByCertificate (s : List ℕ) (signer : Signer) : Type 0 where
-  pub type : signer .kind ≡ 2
+  pub type : signer .form ≡ CARRIED
   pub unnamed : signer .digest ≡ nowhere
   pub end : ℕ
   pub first : ℕ

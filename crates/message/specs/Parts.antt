@@ -19,7 +19,7 @@ use Rattle.message.specs.declared.messages.MessageRead.the-variants as m
 
 abbrev pub signerParts : Signer → SignerParts
 signerParts g =
-    record { kind = g .kind; digest = g .digest; signed = g .certificate .signed; signature = g .certificate .signature .octets }
+    record { form = g .form; digest = g .digest; signed = g .certificate .signed; signature = g .certificate .signature .octets }
 
 abbrev pub headerParts : Headers → HeaderParts
 headerParts h = record { signer = signerParts (h .signer); fields = h .fields }
@@ -42,8 +42,8 @@ messageOf (message.Refused n) = refused n
 
 -- the test of `completeHeaders`
 abbrev pub completeParts : HeaderParts → Bool
-completeParts h = not (eqb (h .signer .kind) 0) && h .fields .generation .given && h .fields .aid .given
+completeParts h = not (eqb (h .signer .form) 0) && h .fields .generation .given && h .fields .aid .given
 
 -- no signer: the parts of `unsigned`
 abbrev pub noSigner : SignerParts
-noSigner = record { kind = 0; digest = nowhere; signed = nowhere; signature = nowhere }
+noSigner = record { form = 0; digest = nowhere; signed = nowhere; signature = nowhere }

@@ -12,29 +12,36 @@ use Rattle.headers.specs.Fields.{strayOf}
 use Rattle.octets.specs.declared.vectors.Part.{Part}
 use Rattle.certificate.specs.declared.certificates.Certificate.{Certificate}
 
--- who signed: kind 1 the certificate with the id whose 8 octets are named, 2 the certificate that stands here, 0 nobody is named
+-- the forms of a signer that are read (001, clause 4.2.11): an id, or a certificate
+abbrev pub NAMED : ℕ
+NAMED = 1
+
+abbrev pub CARRIED : ℕ
+CARRIED = 2
+
+-- who signed: the certificate with the id whose 8 octets are named, or the certificate that stands here; form 0: nobody is named
 pub record Signer : Type 0 where
-  pub kind : ℕ
+  pub form : ℕ
   pub digest : Part
   pub certificate : Certificate
 
 -- no signer
 unfoldable pub unsigned : Signer
-unsigned = record { kind = 0; digest = nowhere; certificate = blank }
+unsigned = record { form = 0; digest = nowhere; certificate = blank }
 
--- type 1: the 8 octets of an id
+-- the 8 octets of an id
 unfoldable pub namedAt : List ℕ → ℕ → Out Signer
-namedAt s at = bind (runAt 8 s at) (λ start end. got (record { kind = 1; digest = part start 8; certificate = blank }) end)
+namedAt s at = bind (runAt 8 s at) (λ start end. got (record { form = NAMED; digest = part start 8; certificate = blank }) end)
 
--- type 2: a certificate, ending with its signature; its container is the header vector
+-- a certificate, ending with its signature; its container is the header vector
 unfoldable pub carriedAt : List ℕ → ℕ → Out Signer
-carriedAt s at = bind (certificateAt s at) (λ certificate end. got (record { kind = 2; digest = nowhere; certificate = certificate }) end)
+carriedAt s at = bind (certificateAt s at) (λ certificate end. got (record { form = CARRIED; digest = nowhere; certificate = certificate }) end)
 
 unfoldable pub signerInfoAt : List ℕ → ℕ → Out Signer
 signerInfoAt s at =
     bind (octetAt s at) (λ type a.
-    pick (eqb type 1) (namedAt s a)
-    (need UNSUPPORTED (eqb type 2) (carriedAt s a)))
+    pick (eqb type NAMED) (namedAt s a)
+    (need UNSUPPORTED (eqb type CARRIED) (carriedAt s a)))
 
 -- "The first header is 128, signer": another one stands out of order, or is unsupported; an empty vector lacks it
 unfoldable pub signerAt : List ℕ → ℕ → Out Signer

@@ -13,15 +13,15 @@ use octets::vectors::Span;
 use octets::vectors::nowhere;
 use octets::vectors::run_at;
 
-// The types of a signer (001, clause 4.2.11) that are read: an id, or a certificate.
+// The forms of a signer that are read (001, clause 4.2.11): an id, or a certificate.
 pub const NAMED: u8 = 1;
 
 pub const CARRIED: u8 = 2;
 
-// Who signed: 1 the certificate with the id whose 8 octets are named, 2 the certificate that stands here, of which the signed range and
-// the signature are given; 0 nobody is named.
+// Who signed: the certificate with the id whose 8 octets are named, or the certificate that stands here, of which the signed range and
+// the signature are given; form 0: nobody is named.
 pub struct SignerParts {
-    pub kind: u8,
+    pub form: u8,
     pub digest: Part,
     pub signed: Part,
     pub signature: Part,
@@ -51,7 +51,7 @@ pub fn no_signer() -> SignerParts
 {
     let none = nowhere();
     SignerParts {
-        kind: 0,
+        form: 0,
         digest: none,
         signed: none,
         signature: none,
@@ -67,7 +67,7 @@ fn named_at(s: &[u8], at: usize) -> SignerRead
         Span::Refused(n) => SignerRead::Refused(n),
         Span::Within { start, end } => SignerRead::Value {
             signer: SignerParts {
-                kind: 1,
+                form: NAMED,
                 digest: Part { start, length: 8 },
                 signed: none,
                 signature: none,
@@ -89,7 +89,7 @@ fn carried_at(s: &[u8], at: usize) -> SignerRead
     let signature = outline.signature.octets;
     SignerRead::Value {
         signer: SignerParts {
-            kind: 2,
+            form: CARRIED,
             digest: nowhere(),
             signed,
             signature,
@@ -105,10 +105,10 @@ fn signer_info_at(s: &[u8], at: usize) -> SignerRead
     match octet_at(s, at) {
         Octet::Refused(n) => SignerRead::Refused(n),
         Octet::Value { value, next } => {
-            if value == 1 {
+            if value == NAMED {
                 return named_at(s, next);
             }
-            if value == 2 {
+            if value == CARRIED {
                 return carried_at(s, next);
             }
             SignerRead::Refused(UNSUPPORTED)

@@ -74,7 +74,7 @@ there (some x) = true
 abbrev pub required : Given → Bool
 required x = there (x .signer) && there (x .fields .generation) && there (x .fields .aid)
 
-signer-there : (at : ℕ) (z : Option Signer) → not (eqb ((elementValue unsigned signerFields at z) .kind) 0) ≡ there z
+signer-there : (at : ℕ) (z : Option Signer) → not (eqb ((elementValue unsigned signerFields at z) .form) 0) ≡ there z
 unfolding unsigned
 signer-there at none = refl
 signer-there at (some (named id)) = refl

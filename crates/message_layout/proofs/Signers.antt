@@ -26,13 +26,13 @@ use Rattle.message_layout.specs.WellFormed.{WellFormedSigner}
 use Rattle.message_layout.specs.Layout.{signerOctets}
 use Rattle.message_layout.specs.Fields.{signerFields}
 
-named-exact : Exact (Opaque 8) (λ id. id) (λ at id. record { kind = 1; digest = part at 8; certificate = blank }) namedAt
+named-exact : Exact (Opaque 8) (λ id. id) (λ at id. record { form = 1; digest = part at 8; certificate = blank }) namedAt
 unfolding namedAt
-named-exact = exactly (last (λ a start n. record { kind = 1; digest = part start 8; certificate = blank }) (before (run-exact 8 (omega arith)))) (λ x rest g. tt)
+named-exact = exactly (last (λ a start n. record { form = 1; digest = part start 8; certificate = blank }) (before (run-exact 8 (omega arith)))) (λ x rest g. tt)
 
-carried-exact : Exact certificates.WellFormed layout.written (λ at x. record { kind = 2; digest = nowhere; certificate = fieldsAt at x }) carriedAt
+carried-exact : Exact certificates.WellFormed layout.written (λ at x. record { form = 2; digest = nowhere; certificate = fieldsAt at x }) carriedAt
 unfolding carriedAt
-carried-exact = exactly (last (λ a x n. record { kind = 2; digest = nowhere; certificate = x }) (before (exactness .anywhere))) (λ x rest g. tt)
+carried-exact = exactly (last (λ a x n. record { form = 2; digest = nowhere; certificate = x }) (before (exactness .anywhere))) (λ x rest g. tt)
 
 by-type : Signer → List ℕ ⊎ certificate.Contents
 by-type (named id) = inl id

@@ -54,7 +54,7 @@ unfoldable pub fields : Message
 fields =
     record {
       headers = record {
-        signer = record { kind = 1; digest = part 4 8; certificate = blank };
+        signer = record { form = 1; digest = part 4 8; certificate = blank };
         fields = record {
           generation = record { given = true; time = 694700000500000 };
           expiration = record { given = true; second = 694700010 };
@@ -64,7 +64,7 @@ fields =
       };
       payload = part 59 9;
       signed = part 0 70;
-      signature = record { kind = 2; octets = part 70 66 };
+      signature = record { form = 2; octets = part 70 66 };
     }
 
 pub record Example : Type 0 where

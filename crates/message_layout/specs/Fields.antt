@@ -23,8 +23,8 @@ use Rattle.message_layout.specs.Layout.{headerOctets, signedOctets}
 
 -- a signer whose type octet stands here
 abbrev pub signerFields : ℕ → Signer → SignerRead
-signerFields at (named id) = record { kind = 1; digest = part (at + 1) 8; certificate = blank }
-signerFields at (carried x) = record { kind = 2; digest = nowhere; certificate = certificate.fieldsAt (at + 1) x }
+signerFields at (named id) = record { form = 1; digest = part (at + 1) 8; certificate = blank }
+signerFields at (carried x) = record { form = 2; digest = nowhere; certificate = certificate.fieldsAt (at + 1) x }
 
 abbrev pub generationFields : ℕ → Generation
 generationFields time = record { given = true; time = time }

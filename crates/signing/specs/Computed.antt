@@ -28,7 +28,7 @@ abbrev pub identityOf : Record → Identity
 identityOf r = record { id = r .id; key = publicKey (r .key); issuer = number (r .issuer) }
 
 unfoldable pub nobody : Identity
-nobody = record { id = replicate 8 0; key = record { kind = 0; octets = replicate 32 0 }; issuer = 0 }
+nobody = record { id = replicate 8 0; key = record { form = 0; octets = replicate 32 0 }; issuer = 0 }
 
 abbrev pub signerRefused : ℕ → SignerJudged
 signerRefused k = record { number = k; signer = nobody }

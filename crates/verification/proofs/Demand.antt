@@ -41,18 +41,19 @@ use Rattle.verification.specs.declared.operations.Prepared.{Prepared}
 use Rattle.signing.proofs.Signed.{signed-numbered}
 use Rattle.verification.proofs.Opened.{decided-passes, prepared-passes}
 use Rattle.verification.proofs.Passes.{passes-to, passes-from}
+use Rattle.message.specs.Signers.{CARRIED}
 
 -- ---- the verdicts
 
-verified-to : (kind certified : ℕ) → (not (eqb kind 2) || eqb certified 1) ≡ true → kind ≡ 2 → certified ≡ 1
-verified-to kind certified e k =
-    ⊎-elim (λ n. never (sym (ap not (eq-eqb kind 2 k)) ∙ n)) (λ h. eqb-true certified 1 h) (or-split (not (eqb kind 2)) (eqb certified 1) e)
+verified-to : (form certified : ℕ) → (not (eqb form 2) || eqb certified 1) ≡ true → form ≡ 2 → certified ≡ 1
+verified-to form certified e k =
+    ⊎-elim (λ n. never (sym (ap not (eq-eqb form 2 k)) ∙ n)) (λ h. eqb-true certified 1 h) (or-split (not (eqb form 2)) (eqb certified 1) e)
 
-verified-from : (kind certified : ℕ) → (kind ≡ 2 → certified ≡ 1) → (not (eqb kind 2) || eqb certified 1) ≡ true
-verified-from kind certified f = by (eqb kind 2) refl
+verified-from : (form certified : ℕ) → (form ≡ 2 → certified ≡ 1) → (not (eqb form 2) || eqb certified 1) ≡ true
+verified-from form certified f = by (eqb form 2) refl
   where
-    by : (b : Bool) → eqb kind 2 ≡ b → (not b || eqb certified 1) ≡ true
-    by true e = eq-eqb certified 1 (f (eqb-true kind 2 e))
+    by : (b : Bool) → eqb form 2 ≡ b → (not b || eqb certified 1) ≡ true
+    by true e = eq-eqb certified 1 (f (eqb-true form 2 e))
     by false e = refl
 
 or-yes : (b : Bool) → (b || true) ≡ true
@@ -79,13 +80,13 @@ chain-issuer l Own n r k (anchor w t) = absurd (no-root r k t)
 chain-issuer l Own (suc n) r k (link {j = j} w z f c) = issuer-slot l (subjectOf r) j (f .found)
 
 -- the certificate's question
-issuer-asked : (store : List ℕ) (m : Message) (issuer i : ℕ) → m .headers .signer .kind ≡ 2 → find store issuer ≡ some i → certificateQuestion store m issuer ≡ issuerQuestion store (m .headers .signer .certificate .signed) (m .headers .signer .certificate .signature .octets) (some i)
+issuer-asked : (store : List ℕ) (m : Message) (issuer i : ℕ) → m .headers .signer .form ≡ CARRIED → find store issuer ≡ some i → certificateQuestion store m issuer ≡ issuerQuestion store (m .headers .signer .certificate .signed) (m .headers .signer .certificate .signature .octets) (some i)
 unfolding certificateQuestion
-issuer-asked store m issuer i k f = rw (eq-eqb (m .headers .signer .kind) 2 k, f)
+issuer-asked store m issuer i k f = rw (eq-eqb (m .headers .signer .form) CARRIED k, f)
 
-none-asked : (store : List ℕ) (m : Message) (issuer : ℕ) → m .headers .signer .kind ≢ 2 → certificateQuestion store m issuer ≡ unasked
+none-asked : (store : List ℕ) (m : Message) (issuer : ℕ) → m .headers .signer .form ≢ CARRIED → certificateQuestion store m issuer ≡ unasked
 unfolding certificateQuestion
-none-asked store m issuer n = rw (ne-eqb (m .headers .signer .kind) 2 n)
+none-asked store m issuer n = rw (ne-eqb (m .headers .signer .form) CARRIED n)
 
 module _ (store octets : List ℕ) (x : Situation) where
   -- a message that passes was read, and its payload lies inside
@@ -94,8 +95,8 @@ module _ (store octets : List ℕ) (x : Situation) where
     where
       by : Gives (judging store octets x) p → p .message .payload .start + p .message .payload .length ≤ length octets
       by (size, (place, (age, (valid, (m, read, (timed, (r, signer, q))))))) =
-          let form = read-given (wholeMessage octets) m read in
-          subst (λ (z : Passed). z .message .payload .start + z .message .payload .length ≤ length octets) (sym q) (inside octets m (form .0) (form .1) .payload)
+          let reads = read-given (wholeMessage octets) m read in
+          subst (λ (z : Passed). z .message .payload .start + z .message .payload .length ≤ length octets) (sym q) (inside octets m (reads .0) (reads .1) .payload)
 
   -- ---- decide
 
@@ -168,14 +169,14 @@ module _ (store octets : List ℕ) (x : Situation) where
             message = g .message .message;
             signer = g .message .signer;
             rules = passes-to store octets x os oo (g .message) (g .judged);
-            certificate-verified = verified-to (g .message .message .headers .signer .kind) certified (g .certificate);
+            certificate-verified = verified-to (g .message .message .headers .signer .form) certified (g .certificate);
             message-verified = eqb-true verdict 1 (g .verdict-good);
           }
 
       pub accepted-gives : (h : Accepted store octets x verdict certified) → decision store octets x verdict certified ≡ decisionFor (passed (h .message) (h .signer))
       accepted-gives h =
           sym (decided-passes store octets x verdict certified (passed (h .message) (h .signer)) (passes-from store octets x os oo (h .message) (h .signer) (h .rules))
-          (verified-from (h .message .headers .signer .kind) certified (h .certificate-verified)) (eq-eqb verdict 1 (h .message-verified)))
+          (verified-from (h .message .headers .signer .form) certified (h .certificate-verified)) (eq-eqb verdict 1 (h .message-verified)))
 
     pub payload-inside : decision store octets x verdict certified .number ≡ 0
         → decision store octets x verdict certified .payload .start + decision store octets x verdict certified .payload .length ≤ length octets

@@ -24,7 +24,7 @@ module _ (store octets : List ℕ) (x : Situation) (os : Octets store) (oo : Oct
   passing-gives p (size, (place, (age, (valid, (m, read, (timed, (r, signer, q))))))) =
       let places = and-split _ _ place in
       let good = valid-laws .valid-exactly store .0 valid in
-      let form = read-given (wholeMessage octets) m read in
+      let reads = read-given (wholeMessage octets) m read in
       let times = time-to (m .headers .fields) (x .time) (x .age) timed in
       let g = gives-exactly (signed store octets m (ownPosition x)) r .0 signer in
       let same : r ≡ g .0 = g .2 .2 in
@@ -35,10 +35,10 @@ module _ (store octets : List ℕ) (x : Situation) (os : Octets store) (oo : Oct
         position = (test-within 900000000 (x .latitude) (places .0), test-within 1800000000 (x .longitude) (places .1));
         age-allowed = leb-true _ _ age;
         valid = good;
-        form = form;
+        reads = reads;
         age = times .0;
         expiration = times .1;
-        signs = signs-to store octets m os oo good form (g .0) (g .1);
+        signs = signs-to store octets m os oo good reads (g .0) (g .1);
         kind = may .0;
         chain = may .1;
         permitted = may .2;
@@ -56,14 +56,14 @@ module _ (store octets : List ℕ) (x : Situation) (os : Octets store) (oo : Oct
           valid-laws .valid-exactly store .1 (h .valid),
           (
             m,
-            ap answered (h .form .1),
+            ap answered (h .reads .1),
             (
               time-from (m .headers .fields) (x .time) (x .age) (h .age) (h .expiration),
               (
                 r,
                 gives-exactly (signed store octets m (ownPosition x)) r .1 (
                   r,
-                  signs-from store octets m os oo (h .valid) (h .form) r (h .signs),
+                  signs-from store octets m os oo (h .valid) (h .reads) r (h .signs),
                   (well, entitled-from store (m .headers .fields) (ownPosition x) r (h .kind) (h .chain) (h .permitted), refl),
                 ),
                 refl,

@@ -48,6 +48,7 @@ use Rattle.signing.specs.Signers.{signing, subjectOf, entitling}
 use Rattle.verification.specs.Accepted.{Reads, Fresh, Unchanged, Signs, by-id, by-certificate}
 use Rattle.store.proofs.Copied.{same-exactly}
 use Rattle.verification.proofs.Reading.{carried-standing}
+use Rattle.message.specs.Signers.{CARRIED}
 
 differs : (n k : ℕ) → eqb n k ≡ false → ¬ (n ≡ k)
 differs n k e z = never (sym e ∙ eq-eqb n k z)
@@ -149,21 +150,21 @@ module _ (store octets : List ℕ) (m : Message) (os : Octets store) (oo : Octet
     where
       by : Gives (signing store octets m) r → Signs store octets m r
       by (inl (c, (w, u, q))) =
-          let kind = eqb-true (m .headers .signer .kind) 2 c in
-          let f = facts octets (m .headers .signer .certificate) oo (carried-standing octets m oo read kind) in
-          subst (λ (s : Record). Signs store octets m s) (sym q) (by-certificate kind (copy-to store carriedRecord os v (f .in-range) (f .sized) w u))
+          let form = eqb-true (m .headers .signer .form) CARRIED c in
+          let f = facts octets (m .headers .signer .certificate) oo (carried-standing octets m oo read form) in
+          subst (λ (s : Record). Signs store octets m s) (sym q) (by-certificate form (copy-to store carriedRecord os v (f .in-range) (f .sized) w u))
       by (inr (c, (i, f, q))) =
           subst (λ (s : Record). Signs store octets m s) (sym q)
-          (by-id i (differs (m .headers .signer .kind) 2 c) (found-to store _ i (slot-given 7 (find store (number (partOf octets (m .headers .signer .digest)))) i f)))
+          (by-id i (differs (m .headers .signer .form) CARRIED c) (found-to store _ i (slot-given 7 (find store (number (partOf octets (m .headers .signer .digest)))) i f)))
 
   pub signs-from : (r : Record) → Signs store octets m r → run (signing store octets m) ≡ gives r
   signs-from _ (by-id i n h) =
       gives-exactly (signing store octets m) (recordOf (slotOf store i)) .1
       (inr (ne-eqb _ _ n, (i, ap (slotOr 7) (found-from store (number (partOf octets (m .headers .signer .digest))) i (v .distinct) h), refl)))
-  signs-from _ (by-certificate kind u) =
-      let f = facts octets (m .headers .signer .certificate) oo (carried-standing octets m oo read kind) in
+  signs-from _ (by-certificate form u) =
+      let f = facts octets (m .headers .signer .certificate) oo (carried-standing octets m oo read form) in
       gives-exactly (signing store octets m) carriedRecord .1
-      (inl (eq-eqb _ _ kind, (well, copy-from store carriedRecord os v (f .in-range) (f .sized) u, refl)))
+      (inl (eq-eqb _ _ form, (well, copy-from store carriedRecord os v (f .in-range) (f .sized) u, refl)))
 
 -- ---- what the signer may
 

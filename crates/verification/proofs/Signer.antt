@@ -18,10 +18,11 @@ use Rattle.signing.specs.Computed.{namedSigner, carriedSigner, signerOf}
 use Rattle.signing.proofs.Signed.{signer-carried, signer-named}
 use Rattle.verification.specs.Accepted.{Reads}
 use Rattle.verification.proofs.Reading.{carried-standing, digest-in}
+use Rattle.message.specs.Signers.{CARRIED}
 
 module _ (octets : List ℕ) (m : Message) (p : MessageParts) (r : Reads octets m) (q : messageParts m ≡ p) where
-  kind-of : m .headers .signer .kind ≡ p .headers .signer .kind
-  kind-of = ap (λ (x : MessageParts). x .headers .signer .kind) q
+  kind-of : m .headers .signer .form ≡ p .headers .signer .form
+  kind-of = ap (λ (x : MessageParts). x .headers .signer .form) q
 
   fields-of : p .headers .fields ≡ m .headers .fields
   fields-of = sym (ap (λ (x : MessageParts). x .headers .fields) q)
@@ -29,7 +30,7 @@ module _ (octets : List ℕ) (m : Message) (p : MessageParts) (r : Reads octets 
   starts : m .headers .signer .certificate .signed .start ≡ p .headers .signer .signed .start
   starts = ap (λ (x : MessageParts). x .headers .signer .signed .start) q
 
-  module _ (o : Octets octets) (carries : p .headers .signer .kind ≡ 2) where
+  module _ (o : Octets octets) (carries : p .headers .signer .form ≡ CARRIED) where
     -- a certificate that it carries
     pub carried-stands : StandsAt octets (p .headers .signer .signed .start)
     carried-stands = (m .headers .signer .certificate, carried-standing octets m o r (kind-of ∙ carries), starts)
@@ -42,7 +43,7 @@ module _ (octets : List ℕ) (m : Message) (p : MessageParts) (r : Reads octets 
         ∙ ap (λ (f : Fields). carriedSigner store octets (m .headers .signer .certificate) f own) fields-of
         ∙ signer-carried store octets m own (eq-eqb _ _ (kind-of ∙ carries))
 
-  module _ (names : ¬ (p .headers .signer .kind ≡ 2)) where
+  module _ (names : ¬ (p .headers .signer .form ≡ CARRIED)) where
     -- the id that it names
     pub named-inside : (p .headers .signer .digest .start + 8 ≤ length octets) × (p .headers .signer .digest .length ≡ 8)
     named-inside =

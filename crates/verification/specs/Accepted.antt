@@ -9,6 +9,7 @@ use lib.ListN.{length}
 use Rattle.octets.specs.Kinds.{TICKET}
 use Rattle.octets.specs.Coordinates.{latitudeLimit, longitudeLimit}
 use Rattle.octets.specs.Reading.{got}
+use Rattle.octets.specs.Verdicts.{GOOD}
 use Rattle.bitfields.specs.Field.{number}
 use Rattle.message.specs.Messages.{Message, wholeMessage}
 use Rattle.scope.specs.Issued.{listed, Among}
@@ -28,6 +29,7 @@ use Rattle.signing.specs.Places.{positionOf}
 use Rattle.signing.specs.Signers.{subjectOf}
 use Rattle.verification.specs.Order.{ownPosition}
 use Rattle.verification.specs.declared.judging.Situation.{Situation}
+use Rattle.message.specs.Signers.{CARRIED}
 
 -- the octets are a message that says this
 abbrev pub Reads : List ℕ → Message → Type 0
@@ -44,9 +46,9 @@ pub record Unchanged (store : List ℕ) (r : Record) : Type 0 where
 
 -- who signs: the stored certificate that the message names, or the certificate that it carries
 pub data Signs (store octets : List ℕ) (m : Message) : Record → Type 0 where
-  by-id : (i : ℕ) → m .headers .signer .kind ≢ 2 → Holds store (number (partOf octets (m .headers .signer .digest))) i
+  by-id : (i : ℕ) → m .headers .signer .form ≢ CARRIED → Holds store (number (partOf octets (m .headers .signer .digest))) i
       → Signs store octets m (recordOf (slotOf store i))
-  by-certificate : m .headers .signer .kind ≡ 2 → Unchanged store (recordFrom octets (m .headers .signer .certificate))
+  by-certificate : m .headers .signer .form ≡ CARRIED → Unchanged store (recordFrom octets (m .headers .signer .certificate))
       → Signs store octets m (recordFrom octets (m .headers .signer .certificate))
 
 -- what prepare and decide both ask of a message, and its signer
@@ -56,8 +58,8 @@ pub record Passing (store octets : List ℕ) (x : Situation) (m : Message) (r : 
   pub position : Within latitudeLimit (x .latitude) × Within longitudeLimit (x .longitude)
   pub age-allowed : x .age ≤ longestAge
   pub valid : Valid store
-  -- the message's form
-  pub form : Reads octets m
+  -- the message reads
+  pub reads : Reads octets m
   -- its age and its expiration
   pub age : Fresh (m .headers .fields .generation .time) (x .time) (allowedAge (x .age))
   pub expiration : m .headers .fields .expiration .given ≡ true → wholeSecond (x .time) < m .headers .fields .expiration .second
@@ -77,5 +79,5 @@ pub record Accepted (store octets : List ℕ) (x : Situation) (verdict certified
   pub signer : Record
   pub rules : Passing store octets x message signer
   -- the verdicts: on the certificate that it carries, and on the message
-  pub certificate-verified : message .headers .signer .kind ≡ 2 → certified ≡ 1
-  pub message-verified : verdict ≡ 1
+  pub certificate-verified : message .headers .signer .form ≡ CARRIED → certified ≡ GOOD
+  pub message-verified : verdict ≡ GOOD

@@ -7,6 +7,7 @@ use lib.Dec.{eqb, leb}
 use Rattle.order.specs.Steps.{Answer, gives, refused, Steps, done, need, take, run}
 use Rattle.octets.specs.Refusals.{ACCEPTED, BAD-CALL, BAD-STORE, OUT-OF-DATE, BAD-SIGNATURE}
 use Rattle.octets.specs.Reading.{pick}
+use Rattle.octets.specs.Verdicts.{GOOD}
 use Rattle.message.specs.Messages.{Message, wholeMessage}
 use Rattle.message.specs.Parts.{messageParts}
 use Rattle.message.specs.declared.signers.SignerParts.{SignerParts}
@@ -25,6 +26,7 @@ use Rattle.verification.specs.declared.judging.Situation.{Situation}
 use Rattle.verification.specs.declared.operations.Decision.{Decision}
 use Rattle.verification.specs.declared.operations.Question.{Question}
 use Rattle.verification.specs.declared.operations.Prepared.{Prepared}
+use Rattle.message.specs.Signers.{CARRIED}
 
 -- the rows of `judging` before the signer
 abbrev pub opening : List ℕ → List ℕ → Situation → Steps Message
@@ -78,7 +80,7 @@ decisionFrom m s =
 unfoldable pub decidedFrom : MessageParts → SignerJudged → ℕ → ℕ → Decision
 decidedFrom m s verdict certified =
     pick (eqb (s .number) ACCEPTED)
-    (pick (not (eqb (m .headers .signer .kind) 2) || eqb certified 1)
-    (pick (eqb verdict 1) (decisionFrom m s) (undecided BAD-SIGNATURE))
+    (pick (not (eqb (m .headers .signer .form) CARRIED) || eqb certified GOOD)
+    (pick (eqb verdict GOOD) (decisionFrom m s) (undecided BAD-SIGNATURE))
     (undecided BAD-SIGNATURE))
     (undecided (s .number))

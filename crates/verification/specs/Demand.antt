@@ -24,6 +24,7 @@ use Rattle.verification.specs.Payloads.{payloadOf}
 use Rattle.verification.specs.Accepted.{Passing, Accepted}
 use Rattle.verification.specs.declared.judging.Situation.{Situation}
 use Rattle.verification.specs.declared.operations.Prepared.{Prepared}
+use Rattle.message.specs.Signers.{CARRIED}
 
 -- the questions of a message that passes: for the message the signer's key, for a certificate that it carries the issuer's, which is stored
 pub record Asked (store octets : List ℕ) (x : Situation) (q : Prepared) : Type 0 where
@@ -31,9 +32,9 @@ pub record Asked (store octets : List ℕ) (x : Situation) (q : Prepared) : Type
   pub signer : Record
   pub rules : Passing store octets x message signer
   pub signers-key : q .message ≡ question (message .signed) (publicKey (signer .key)) (message .signature .octets)
-  pub issuers-key : message .headers .signer .kind ≡ 2 → (i : ℕ) × Holds store (number (signer .issuer)) i
+  pub issuers-key : message .headers .signer .form ≡ CARRIED → (i : ℕ) × Holds store (number (signer .issuer)) i
       × (q .certificate ≡ question (message .headers .signer .certificate .signed) (publicKey (recordOf (slotOf store i) .key)) (message .headers .signer .certificate .signature .octets))
-  pub none-asked : message .headers .signer .kind ≢ 2 → q .certificate ≡ unasked
+  pub none-asked : message .headers .signer .form ≢ CARRIED → q .certificate ≡ unasked
 
 pub record Demand2 : Type 1 where
   -- decide answers 0 exactly if the rules hold,

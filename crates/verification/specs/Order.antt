@@ -9,6 +9,7 @@ use lib.Dec.{eqb, leb}
 use Rattle.order.specs.Steps.{Answer, gives, refused, Steps, done, need, take, follow, run}
 use Rattle.octets.specs.Refusals.{ACCEPTED, BAD-CALL, BAD-STORE, OUT-OF-DATE, BAD-SIGNATURE}
 use Rattle.octets.specs.Reading.{pick}
+use Rattle.octets.specs.Verdicts.{GOOD}
 use Rattle.octets.specs.Vectors.{nowhere}
 use Rattle.octets.specs.declared.vectors.Part.{Part}
 use Rattle.bitfields.specs.Field.{number}
@@ -69,8 +70,8 @@ decisionFor p =
 
 abbrev pub verified : Passed → ℕ → ℕ → Steps Decision
 verified p verdict certified =
-    need BAD-SIGNATURE (not (carries (p .message)) || eqb certified 1)
-    (need BAD-SIGNATURE (eqb verdict 1)
+    need BAD-SIGNATURE (not (carries (p .message)) || eqb certified GOOD)
+    (need BAD-SIGNATURE (eqb verdict GOOD)
     (done (decisionFor p)))
 
 abbrev pub deciding : List ℕ → List ℕ → Situation → ℕ → ℕ → Steps Decision
@@ -91,11 +92,11 @@ decision store octets x verdict certified = decisionOf (run (deciding store octe
 
 -- the key that checks, what it covers, and the whole signature structure
 abbrev pub question : Part → PublicKey → Part → Question
-question range key signature = record { signed = range; kind = key .kind; key = key .octets; signature = signature }
+question range key signature = record { signed = range; form = key .form; key = key .octets; signature = signature }
 
 -- no question: empty parts at octet 0 and zeros
 unfoldable pub unasked : Question
-unasked = record { signed = nowhere; kind = 0; key = replicate 32 0; signature = nowhere }
+unasked = record { signed = nowhere; form = 0; key = replicate 32 0; signature = nowhere }
 
 -- the certificate's question, by the key of its issuer, which the walk found
 abbrev pub issuerQuestion : List ℕ → Part → Part → Option ℕ → Question

@@ -18,6 +18,7 @@ use octets::refusals::ACCEPTED;
 use octets::refusals::BAD_SIGNATURE;
 use octets::vectors::Part;
 use octets::vectors::nowhere;
+use octets::verdicts::GOOD;
 use signing::signers::PublicKey;
 use signing::signers::SignerJudged;
 use signing::signers::carried_signer;
@@ -27,13 +28,10 @@ use store::fields::key_at;
 use store::search::Found;
 use store::search::find_id;
 
-// The chip's verdict on a good signature.
-const GOOD: u8 = 1;
-
 // What the chip is asked: the signed range, the key's point type and octets, and the whole signature structure. Ranges are parts of the message.
 pub struct Question {
     pub signed: Part,
-    pub kind: u8,
+    pub form: u8,
     pub key: [u8; 32],
     pub signature: Part,
 }
@@ -59,7 +57,7 @@ fn no_question() -> Question
 {
     Question {
         signed: nowhere(),
-        kind: 0,
+        form: 0,
         key: [0; 32],
         signature: nowhere(),
     }
@@ -71,7 +69,7 @@ fn question_of(signed: Part, key: PublicKey, signature: Part) -> Question
     let octets = key.octets;
     Question {
         signed,
-        kind: key.kind,
+        form: key.form,
         key: octets,
         signature,
     }
@@ -104,7 +102,7 @@ fn certificate_question(store: &[u8], signer: SignerParts, issuer: u64) -> Quest
     requires { ⌜ length (now store) ≡ storeLength ⌝ }
     ensures { λ r. ⌜ r ≡ partsQuestion (now (store .entry)) signer issuer ⌝ }
 {
-    if signer.kind != CARRIED {
+    if signer.form != CARRIED {
         return no_question();
     }
     match find_id(store, issuer) {
@@ -155,7 +153,7 @@ fn prepare_in(store: &[u8], message: &[u8], x: Situation) -> Prepared
         longitude: x.longitude,
     };
     let fields = m.headers.fields;
-    if m.headers.signer.kind == CARRIED {
+    if m.headers.signer.form == CARRIED {
         let at = m.headers.signer.signed.start;
         let judged = carried_signer(store, message, at, fields, own);
         return questions_for(store, m, judged);
@@ -173,7 +171,7 @@ fn decision_for(m: MessageParts, judged: SignerJudged, verdict: u8, certified: u
     if number != ACCEPTED {
         return undecided(number);
     }
-    if (m.headers.signer.kind == CARRIED) & (certified != GOOD) {
+    if (m.headers.signer.form == CARRIED) & (certified != GOOD) {
         return undecided(BAD_SIGNATURE);
     }
     if verdict != GOOD {
@@ -207,7 +205,7 @@ fn decide_in(store: &[u8], message: &[u8], x: Situation, verdict: u8, certified:
         longitude: x.longitude,
     };
     let fields = m.headers.fields;
-    if m.headers.signer.kind == CARRIED {
+    if m.headers.signer.form == CARRIED {
         let at = m.headers.signer.signed.start;
         let judged = carried_signer(store, message, at, fields, own);
         return decision_for(m, judged, verdict, certified);

@@ -2,14 +2,14 @@
 use mathlib.Core.Path.{_≡_, refl, sym, ap, _∙_}
 use mathlib.Core.Bool.{Bool, true, false, not}
 use mathlib.Core.List.{List}
-use mathlib.Core.Option.{Option, none, some}
+use mathlib.Core.Option.{none, some}
 use Prim.Native.Nat.{ℕ, _≤_, _<_}
 use lib.ListN.{length}
 use lib.Seq.{take-all}
 use native.Mathlib.Omega.{arith}
 use borrow.Author.Tests.{eq-eqb, ne-eqb, eqb-true, le-leb, lt-leb, not-true}
 use Rattle.order.specs.Steps.{Answer, gives, refused, pick, done, need, take, run}
-use Rattle.order.proofs.Steps.{gives-exactly, gives-refused, passes, fails, halts}
+use Rattle.order.proofs.Steps.{gives-exactly, passes, fails, halts}
 use Rattle.octets.specs.Refusals.{BAD-CALL, BAD-STORE, UNKNOWN, WITHDRAWN}
 use Rattle.bitfields.specs.Field.{number}
 use Rattle.bitfields.specs.Words.{wordAt}
@@ -19,13 +19,10 @@ use Rattle.store.specs.Search.{find}
 use Rattle.store.proofs.Found.{find-finds}
 use Rattle.validity.specs.Valid.{validStore}
 use Rattle.chain.specs.Stored.{slotOr}
+use Rattle.chain.proofs.Answers.{slot-given}
 use Rattle.store.specs.Withdrawn.{withdrawnIn}
 use Rattle.withdrawal.specs.Order.{asking, asked, withdrawnFrom, withdrawal, refusedList, listedFor, page}
 use Rattle.withdrawal.specs.Computed.{heldAt}
-
-slot-or : (k i : ℕ) (o : Option ℕ) → slotOr k o ≡ gives i → o ≡ some i
-slot-or k i none e = absurd (gives-refused i k e)
-slot-or k i (some j) e = let same : j ≡ i = cc in ap (λ (n : ℕ). some n) same
 
 -- what is known of a certificate that may be asked for
 pub record Held (s id : List ℕ) (c : ℕ) : Type 0 where
@@ -40,7 +37,7 @@ unfolding asked
 asked-held s id c e =
     let g = gives-exactly (asking s id) c .0 e in
     let i = g .1 .1 .1 .0 in
-    let found : find s (number id) ≡ some i = slot-or UNKNOWN i _ (g .1 .1 .1 .1) in
+    let found : find s (number id) ≡ some i = slot-given UNKNOWN _ i (g .1 .1 .1 .1) in
     record {
       long = eqb-true _ _ (g .0);
       id-long = eqb-true _ _ (g .1 .0);

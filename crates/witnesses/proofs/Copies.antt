@@ -71,7 +71,7 @@ abbrev message-of : Certificate → ℕ → Message
 message-of c payload =
     record {
       headers = record {
-        signer = record { kind = 2; digest = nowhere; certificate = c };
+        signer = record { form = 2; digest = nowhere; certificate = c };
         fields = record {
           generation = record { given = true; time = 220000000 };
           expiration = unexpiring;
@@ -81,7 +81,7 @@ message-of c payload =
       };
       payload = part payload 2;
       signed = part 0 (payload + 4);
-      signature = record { kind = 0; octets = part (payload + 4) 66 };
+      signature = record { form = 0; octets = part (payload + 4) 66 };
     }
 
 anchor-message : wholeMessage (carried anchor) ≡ got (message-of (anchor-at 5) 133) 203
@@ -163,8 +163,8 @@ abbrev questions : Prepared
 questions =
     record {
       number = 0;
-      message = question (part 0 150) (record { kind = 2; octets = replicate 32 0 }) (part 150 66);
-      certificate = question (part 5 62) (record { kind = 2; octets = replicate 32 0 }) (part 67 66);
+      message = question (part 0 150) (record { form = 2; octets = replicate 32 0 }) (part 150 66);
+      certificate = question (part 5 62) (record { form = 2; octets = replicate 32 0 }) (part 67 66);
     }
 
 asked : preparation chained (carried pass) (at 220000000) ≡ questions

@@ -81,7 +81,7 @@ unfolding message bigEndianOctets intxOctets run wholeMessage headersAt headersI
 unsigned = decided chained last (at 300000000) (run (later chained last (at 300000000))) (judged chained last (at 300000000) chained-open (refl, refl)) 0 1
 
 asked : preparation chained last (at 300000000)
-    ≡ record { number = 0; message = question (part 0 29) (record { kind = 2; octets = replicate 32 0 }) (part 29 66); certificate = unasked }
+    ≡ record { number = 0; message = question (part 0 29) (record { form = 2; octets = replicate 32 0 }) (part 29 66); certificate = unasked }
 unfolding message bigEndianOctets intxOctets run wholeMessage headersAt headersIn signerAt signerInfoAt namedAt fieldsIn generationAt deviationAt expirationAt locationAt digestsAt aidAt payloadAt trailerAt trailerIn signatureAt pointAt spanAt runAt intxAt octetAt unsignedAt exactlyAt bigEndianOn leadingOnes inTime allowedAge chained slot-0 slot-1 slot-2 slot-3 slot-4 slot-5 slot-6 slot-7 slot-8 slot-9 slot-10 slot-11 find lowestFrom stateAt idAt field digitsAt number recordOf fieldsOf regionOf permissionsOf scopeOf subjectOf issuerAt subjectAt issuerIn withdrawnIn walk firstOf someOf eachOf insideOf inRegion positionOf certificateQuestion
 asked = prepared chained last (at 300000000) (run (later chained last (at 300000000))) (judged chained last (at 300000000) chained-open (refl, refl))
 
@@ -104,7 +104,7 @@ walked-reached = (
                 (
                   on-chains (λ s. decision s last (at 300000000) 0 1 ≡ undecided 15) unsigned,
                   (
-                    on-chains (λ s. preparation s last (at 300000000) ≡ record { number = 0; message = question (part 0 29) (record { kind = 2; octets = replicate 32 0 }) (part 29 66); certificate = unasked }) asked,
+                    on-chains (λ s. preparation s last (at 300000000) ≡ record { number = 0; message = question (part 0 29) (record { form = 2; octets = replicate 32 0 }) (part 29 66); certificate = unasked }) asked,
                     tt,
                   ),
                 ),

@@ -72,9 +72,9 @@ unread octets k = read octets (record { number = k; certificate = blank }) ∷ i
 abbrev pub anchor-fields : Certificate
 anchor-fields =
     record {
-      head = record { signer = record { kind = 0; digest = nowhere }; kind = 4; name = part 4 0 };
+      head = record { signer = record { form = 0; digest = nowhere }; kind = 4; name = part 4 0 };
       attributes = record {
-        key = record { kind = 2; octets = part 8 32 };
+        key = record { form = 2; octets = part 8 32 };
         encryption = absent;
         assurance = unassured;
         permissions = record { given = true; count = 1; values = record { aid = 36; ssp = nowhere } ∷ replicate 15 no-permission };
@@ -84,7 +84,7 @@ anchor-fields =
         area = record { given = false; region = everywhere };
       };
       signed = part 0 49;
-      signature = record { kind = 0; octets = part 49 66 };
+      signature = record { form = 0; octets = part 49 66 };
     }
 
 abbrev pub reading : List (List Case)
@@ -156,7 +156,7 @@ walked =
     ∷ decide chains last (at 300000000) 0 1 (undecided BAD-SIGNATURE)
     -- "Its questions give signed range, key (point type and 32 octets) and the whole signature structure"
     ∷ prepare chains last (at 300000000)
-    (record { number = ACCEPTED; message = question (part 0 29) (record { kind = 2; octets = replicate 32 0 }) (part 29 66); certificate = unasked })
+    (record { number = ACCEPTED; message = question (part 0 29) (record { form = 2; octets = replicate 32 0 }) (part 29 66); certificate = unasked })
     ∷ []) ∷ []
 
 -- a message that carries its signer's certificate
@@ -177,8 +177,8 @@ copies =
     ∷ prepare chains (carried pass) (at 220000000)
     (record {
       number = ACCEPTED;
-      message = question (part 0 150) (record { kind = 2; octets = replicate 32 0 }) (part 150 66);
-      certificate = question (part 5 62) (record { kind = 2; octets = replicate 32 0 }) (part 67 66);
+      message = question (part 0 150) (record { form = 2; octets = replicate 32 0 }) (part 150 66);
+      certificate = question (part 5 62) (record { form = 2; octets = replicate 32 0 }) (part 67 66);
     })
     ∷ []) ∷ []
 

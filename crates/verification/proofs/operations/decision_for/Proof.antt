@@ -39,18 +39,18 @@ undecided-requires-2 c κs = search needs
 
 returns-2 : tie.Need-returns-2
 unfolding decidedFrom
-returns-2 c = rw (eq-eqb _ _ (c .before .before .before .if1 .left), unverified (c .before .before .before .before .args .m .headers .signer .kind) (c .before .before .before .before .args .certified) (c .before .if2 .taken)) (c .undecided2 .ensures)
+returns-2 c = rw (eq-eqb _ _ (c .before .before .before .if1 .left), unverified (c .before .before .before .before .args .m .headers .signer .form) (c .before .before .before .before .args .certified) (c .before .if2 .taken)) (c .undecided2 .ensures)
 
 undecided-requires-3 : tie.Need-undecided-requires-3
 undecided-requires-3 c κs = search needs
 
 returns-3 : tie.Need-returns-3
 unfolding decidedFrom
-returns-3 c = rw (eq-eqb _ _ (c .before .before .before .before .if1 .left), verified (c .before .before .before .before .before .args .m .headers .signer .kind) (c .before .before .before .before .before .args .certified) (c .before .before .if2 .left), ne-eqb _ _ (c .before .if3 .taken)) (c .undecided3 .ensures)
+returns-3 c = rw (eq-eqb _ _ (c .before .before .before .before .if1 .left), verified (c .before .before .before .before .before .args .m .headers .signer .form) (c .before .before .before .before .before .args .certified) (c .before .before .if2 .left), ne-eqb _ _ (c .before .if3 .taken)) (c .undecided3 .ensures)
 
 returns-4 : tie.Need-returns-4
 unfolding decidedFrom
-returns-4 c = rw (eq-eqb _ _ (c .before .before .before .before .before .if1 .left), verified (c .before .before .before .before .before .before .args .m .headers .signer .kind) (c .before .before .before .before .before .before .args .certified) (c .before .before .before .if2 .left), eq-eqb _ _ (c .before .before .if3 .left))
+returns-4 c = rw (eq-eqb _ _ (c .before .before .before .before .before .if1 .left), verified (c .before .before .before .before .before .before .args .m .headers .signer .form) (c .before .before .before .before .before .before .args .certified) (c .before .before .before .if2 .left), eq-eqb _ _ (c .before .before .if3 .left))
 
 pub decision-for-spec : {M : Type 1} → statement M
 decision-for-spec =
