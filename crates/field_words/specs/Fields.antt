@@ -54,7 +54,11 @@ abbrev pub signatureWords : Part → Signature → List ℕ
 signatureWords signed signature =
     signed .start ∷ signed .length ∷ signature .octets .start ∷ signature .octets .length ∷ signature .form ∷ []
 
--- a buffer with the fields of a certificate: 90 words, in sections that do not meet
+-- the fields of a certificate take 90 words of four octets
+abbrev pub fieldsLength : ℕ
+fieldsLength = 360
+
+-- a buffer with the fields of a certificate, in sections that do not meet
 unfoldable pub withRectangles : List Rectangle → List ℕ → List ℕ
 withRectangles rectangles l =
     withWords 32 (edgeWords (getD rectangles 3 unused))

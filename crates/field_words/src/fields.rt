@@ -2,7 +2,7 @@ ghost use mathlib.Core.Path.{_≡_};
 ghost use mathlib.Core.List.{map};
 ghost use Prim.Native.Nat.{_≤_};
 ghost use lib.ListN.{length};
-ghost use Rattle.field_words.specs.Fields.{headWords, keyWords, assuranceWords, periodWords, areaWords, edgeWords, cellOf, signatureWords, withRectangles, withPermissions, withAttributes, withRestrictions, withFields};
+ghost use Rattle.field_words.specs.Fields.{fieldsLength, headWords, keyWords, assuranceWords, periodWords, areaWords, edgeWords, cellOf, signatureWords, withRectangles, withPermissions, withAttributes, withRestrictions, withFields};
 use crate::words::write_words;
 use attributes::assurances::Assurance;
 use attributes::permissions::Permission;
@@ -16,6 +16,9 @@ use octets::coordinates::pattern;
 use octets::vectors::Part;
 use restrictions::periods::Period;
 use restrictions::vector::Restrictions;
+
+// 90 words of four octets.
+pub const FIELDS_LENGTH: usize = 360;
 
 // Words 0 to 5.
 fn head_words(h: Head) -> [u64; 6]
@@ -113,7 +116,7 @@ fn signature_words(signed: Part, signature: Signature) -> [u64; 5]
 
 // The four rectangles become words 20 to 35.
 fn write_rectangles(buffer: &mut [u8], rectangles: [Rectangle; 4])
-    requires { ⌜ 360 ≤ length (now buffer) ⌝ }
+    requires { ⌜ fieldsLength ≤ length (now buffer) ⌝ }
     ensures { λ _. ⌜ now (buffer .exit) ≡ withRectangles rectangles (now (buffer .entry)) ⌝ }
 {
     let first = edge_words(rectangles[0]);
@@ -128,7 +131,7 @@ fn write_rectangles(buffer: &mut [u8], rectangles: [Rectangle; 4])
 
 // The permissions become words 37 to 84.
 fn write_permissions(buffer: &mut [u8], values: [Permission; 16])
-    requires { ⌜ 360 ≤ length (now buffer) ⌝ }
+    requires { ⌜ fieldsLength ≤ length (now buffer) ⌝ }
     ensures { λ _. ⌜ now (buffer .exit) ≡ withPermissions values (now (buffer .entry)) ⌝ }
 {
     let aids = column(values, 0);
@@ -141,7 +144,7 @@ fn write_permissions(buffer: &mut [u8], values: [Permission; 16])
 
 // The attributes become words 6 to 13, and 36 to 84.
 fn write_attributes(buffer: &mut [u8], a: Attributes)
-    requires { ⌜ 360 ≤ length (now buffer) ⌝ }
+    requires { ⌜ fieldsLength ≤ length (now buffer) ⌝ }
     ensures { λ _. ⌜ now (buffer .exit) ≡ withAttributes a (now (buffer .entry)) ⌝ }
 {
     let key = key_words(a.key);
@@ -158,7 +161,7 @@ fn write_attributes(buffer: &mut [u8], a: Attributes)
 
 // The restrictions become words 14 to 35.
 fn write_restrictions(buffer: &mut [u8], r: Restrictions)
-    requires { ⌜ 360 ≤ length (now buffer) ⌝ }
+    requires { ⌜ fieldsLength ≤ length (now buffer) ⌝ }
     ensures { λ _. ⌜ now (buffer .exit) ≡ withRestrictions r (now (buffer .entry)) ⌝ }
 {
     let period = period_words(r.period);
@@ -169,9 +172,9 @@ fn write_restrictions(buffer: &mut [u8], r: Restrictions)
     write_rectangles(buffer, rectangles);
 }
 
-// The fields of a certificate become the first 90 words of a buffer.
+// The fields of a certificate become the first octets of a buffer.
 pub fn write_fields(buffer: &mut [u8], c: Certificate)
-    requires { ⌜ 360 ≤ length (now buffer) ⌝ }
+    requires { ⌜ fieldsLength ≤ length (now buffer) ⌝ }
     ensures { λ _. ⌜ now (buffer .exit) ≡ withFields c (now (buffer .entry)) ⌝ }
 {
     let head = head_words(c.head);

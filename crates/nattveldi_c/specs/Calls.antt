@@ -11,12 +11,12 @@ use Rattle.octets.specs.Buffers.{withFront}
 use Rattle.certificate.specs.Operations.{readingOf, idOf}
 use Rattle.certificate.specs.declared.operations.Reading.{Reading}
 use Rattle.certificate.specs.declared.operations.Identified.{Identified}
-use Rattle.field_words.specs.Fields.{withFields}
+use Rattle.field_words.specs.Fields.{withFields, fieldsLength}
 use Rattle.verification.specs.Order.{preparation, decision}
 use Rattle.verification.specs.declared.judging.Situation.{Situation}
 use Rattle.verification.specs.declared.operations.Prepared.{Prepared}
 use Rattle.verification.specs.declared.operations.Decision.{Decision}
-use Rattle.answer_words.specs.Answers.{withQuestions, withDecision}
+use Rattle.answer_words.specs.Answers.{withQuestions, withDecision, questionsLength, decisionLength}
 use Rattle.withdrawal.specs.Order.{Listing, page}
 
 abbrev pub Call : Type 0
@@ -26,7 +26,7 @@ abbrev pub readAnswer : Reading → List ℕ → Call
 readAnswer r fields = pick (eqb (r .number) ACCEPTED) (ACCEPTED, withFields (r .certificate) fields) (r .number, fields)
 
 unfoldable pub readCall : List ℕ → List ℕ → Call
-readCall certificate fields = pick (ltb (length fields) 360) (BAD-CALL, fields) (readAnswer (readingOf certificate) fields)
+readCall certificate fields = pick (ltb (length fields) fieldsLength) (BAD-CALL, fields) (readAnswer (readingOf certificate) fields)
 
 abbrev pub idAnswer : Identified → List ℕ → Call
 idAnswer r buffer = pick (eqb (r .number) ACCEPTED) (ACCEPTED, withFront (r .id) buffer) (r .number, buffer)
@@ -41,7 +41,7 @@ prepareAnswer q questions store =
 
 unfoldable pub prepareCall : List ℕ → List ℕ → Situation → List ℕ → ℕ × List ℕ × List ℕ
 prepareCall store message x questions =
-    pick (ltb (length questions) 104) (BAD-CALL, questions, store) (prepareAnswer (preparation store message x) questions store)
+    pick (ltb (length questions) questionsLength) (BAD-CALL, questions, store) (prepareAnswer (preparation store message x) questions store)
 
 abbrev pub decideAnswer : Decision → List ℕ → List ℕ → ℕ × List ℕ × List ℕ
 decideAnswer d buffer store =
@@ -49,7 +49,7 @@ decideAnswer d buffer store =
 
 unfoldable pub decideCall : List ℕ → List ℕ → Situation → ℕ → ℕ → List ℕ → ℕ × List ℕ × List ℕ
 decideCall store message x verdict certified buffer =
-    pick (ltb (length buffer) 28) (BAD-CALL, buffer, store) (decideAnswer (decision store message x verdict certified) buffer store)
+    pick (ltb (length buffer) decisionLength) (BAD-CALL, buffer, store) (decideAnswer (decision store message x verdict certified) buffer store)
 
 -- how many slots the list names, or minus the number of the refusal; then the list and the store as they are left
 abbrev pub listAnswer : Listing → ℤ × List ℕ × List ℕ

@@ -8,8 +8,11 @@ ghost use Rattle.verification.specs.Order.{situation};
 ghost use Rattle.withdrawal.specs.Order.{withdrawal};
 ghost use Rattle.page_text.specs.Page.{pageCall};
 ghost use Rattle.nattveldi_c.specs.Calls.{readCall, idCall, prepareCall, decideCall, listCall};
+use answer_words::DECISION_LENGTH;
+use answer_words::QUESTIONS_LENGTH;
 use answer_words::write_decision;
 use answer_words::write_questions;
+use field_words::FIELDS_LENGTH;
 use field_words::write_fields;
 use octets::buffers::write_front;
 use octets::refusals::ACCEPTED;
@@ -19,7 +22,7 @@ use octets::refusals::BAD_CALL;
 pub extern "C" fn nattveldi_read(certificate: &[u8], fields: &mut [u8]) -> u8
     ensures { λ r. ⌜ _≡_ {A = ℕ × List ℕ} (r, now (fields .exit)) (readCall (now (certificate .entry)) (now (fields .entry))) ⌝ }
 {
-    if fields.len() < 360 {
+    if fields.len() < FIELDS_LENGTH {
         return BAD_CALL;
     }
     let reading = nattveldi::read(certificate);
@@ -75,7 +78,7 @@ pub extern "C" fn nattveldi_prepare(
 ) -> u8
     ensures { λ r. ⌜ _≡_ {A = ℕ × List ℕ × List ℕ} (r, now (questions .exit), now (store .exit)) (prepareCall (now (store .entry)) (now (message .entry)) (situation time latitude longitude age) (now (questions .entry))) ⌝ }
 {
-    if questions.len() < 104 {
+    if questions.len() < QUESTIONS_LENGTH {
         return BAD_CALL;
     }
     let prepared = nattveldi::prepare(store, message, time, latitude, longitude, age);
@@ -101,7 +104,7 @@ pub extern "C" fn nattveldi_decide(
 ) -> u8
     ensures { λ r. ⌜ _≡_ {A = ℕ × List ℕ × List ℕ} (r, now (decision .exit), now (store .exit)) (decideCall (now (store .entry)) (now (message .entry)) (situation time latitude longitude age) verdict certified (now (decision .entry))) ⌝ }
 {
-    if decision.len() < 28 {
+    if decision.len() < DECISION_LENGTH {
         return BAD_CALL;
     }
     let decided = nattveldi::decide(
