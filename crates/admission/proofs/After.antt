@@ -31,6 +31,7 @@ use Rattle.entries.proofs.Rules.{rules}
 use Rattle.entries.proofs.Whole.{whole-of}
 use Rattle.admission.proofs.Good.{good}
 use Rattle.admission.proofs.Exactly.{empty-not, left-by}
+use Rattle.records.specs.Layout.{slotLength}
 
 same-or : (i j : ℕ) → (i ≡ j) ⊎ (i ≢ j)
 same-or i j = elim (decLe i j) [
@@ -49,7 +50,7 @@ record Put (l : List ℕ) (i : ℕ) (r : Record) : Type 0 where
 -- a record that goes into an empty slot of a valid store, with an id that no slot has
 module _ (l : List ℕ) (i : ℕ) (r : Record) (v : Valid l) (free : LowestEmpty l i) (ranged : InRange r) (fits : Sized r) (held : r .state ≡ HELD)
     (keeps : goodSlot (imageOf r) ≡ true) (new : (j : ℕ) → ¬ (Holds l (number (r .id)) j)) where
-  long : length (imageOf r) ≡ 212
+  long : length (imageOf r) ≡ slotLength
   long = image-long r
 
   state : stateAt (withSlot l i (imageOf r)) i ≡ HELD

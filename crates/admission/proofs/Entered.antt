@@ -17,13 +17,14 @@ use Rattle.certificate.specs.declared.operations.Reading.{Reading}
 use Rattle.certificate.proofs.Forward.{whole-forward}
 use Rattle.records.specs.Records.{imageOf}
 use Rattle.records.specs.declared.Record.{Record}
-use Rattle.store.specs.Slots.{withSlot}
+use Rattle.store.specs.Slots.{withSlot, storeLength}
 use Rattle.store.specs.Search.{lowestEmpty}
 use Rattle.validity.specs.Valid.{validStore}
 use Rattle.chain.specs.Stored.{answered, slotOr}
 use Rattle.entries.specs.Readable.{accepted}
 use Rattle.entries.specs.Stored.{recordFrom}
-use Rattle.admission.specs.Order.{wanted, testing, testNumber, placing, entering, leaving, placed, entered}
+use Rattle.admission.specs.Order.{wanted, testing, placing, entering, leaving, entered}
+use Rattle.admission.specs.Computed.{testNumber, placed}
 use Rattle.admission.proofs.Tests.{test-gives, test-stops}
 
 -- ---- a record that is to go into the store
@@ -96,11 +97,11 @@ module _ (anchor : Bool) (store octets : List ℕ) (verdict : ℕ) where
   abbrev reads : Steps (List ℕ)
   reads = take (answered (whole octets)) kinds
 
-  pub entered-length : eqb (length store) 13568 ≡ false → _≡_ {A = ℕ × List ℕ} (1, store) (entered anchor store octets verdict)
+  pub entered-length : eqb (length store) storeLength ≡ false → _≡_ {A = ℕ × List ℕ} (1, store) (entered anchor store octets verdict)
   unfolding entered
   entered-length e = sym (ap (leaving store) (fails e 1 (need 2 (validStore store) reads)))
 
-  module _ (size : eqb (length store) 13568 ≡ true) where
+  module _ (size : eqb (length store) storeLength ≡ true) where
     pub entered-bad : validStore store ≡ false → _≡_ {A = ℕ × List ℕ} (2, store) (entered anchor store octets verdict)
     unfolding entered
     entered-bad e = sym (ap (leaving store) (passes size 1 (need 2 (validStore store) reads) ∙ fails e 2 reads))

@@ -10,7 +10,7 @@ use native.Mathlib.Decide.{decLe}
 use native.Mathlib.Nat.{eq-or-lt-of-le, lt-of-not-le}
 use lib.ListN.{length}
 use lib.Dec.{eqb}
-use borrow.Author.Tests.{eq-eqb, ne-eqb, eqb-true}
+use borrow.Author.Tests.{eq-eqb, ne-eqb, eqb-true, not-true}
 use Rattle.order.specs.Steps.{Answer, gives, refused, number as answerNumber, done, run, rows, First, Gives, Named, Numbered, Well, well}
 use Rattle.order.proofs.Steps.{gives-refused, gives-exactly, refuses-at, run-named, needs-to, needs-from}
 use Rattle.octets.specs.Reading.{Out, got, refused as unread}
@@ -90,12 +90,6 @@ read-to s c = by (whole s)
 
 -- ---- the issuer
 
-held-to : (n : ℕ) → not (eqb n 2) ≡ true → n ≢ 2
-held-to n e t = never (sym (ap not (eq-eqb n 2 t)) ∙ e)
-
-held-from : (n : ℕ) → n ≢ 2 → not (eqb n 2) ≡ true
-held-from n h = ap not (ne-eqb n 2 h)
-
 module _ (store : List ℕ) (r : Record) where
   pub issuer-to : (w : Well) → run (issuerSteps false store r) ≡ gives w → Issuer store r
   issuer-to w e =
@@ -105,7 +99,7 @@ module _ (store : List ℕ) (r : Record) where
       record {
         slot = i;
         stored = found-to store (number (r .issuer)) i (slot-given 7 (find store (number (r .issuer))) i (g .1));
-        not-withdrawn = held-to (stateAt store i) (g .2 .0);
+        not-withdrawn = not-true _ (g .2 .0);
         issued = pass-exactly (r .scope) (scopeOf (slotOf store i)) .0 (p .0);
       }
 
@@ -115,7 +109,7 @@ module _ (store : List ℕ) (r : Record) where
         h .slot,
         ap (slotOr 7) (found-from store (number (r .issuer)) (h .slot) (v .distinct) (h .stored)),
         (
-          held-from (stateAt store (h .slot)) (h .not-withdrawn),
+          ap not (h .not-withdrawn),
           needs-from (issuedRows (r .scope) (scopeOf (slotOf store (h .slot)))) (done well) well
               (pass-exactly (r .scope) (scopeOf (slotOf store (h .slot))) .1 (h .issued)) refl,
         ),

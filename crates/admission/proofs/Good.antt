@@ -14,7 +14,7 @@ use Rattle.certificate.specs.declared.certificates.Certificate.{Certificate}
 use Rattle.bitfields.specs.Field.{Octets}
 use Rattle.bitfields.specs.Zero.{zeroBits}
 use Rattle.bitfields.proofs.Unused.{unused-zero}
-use Rattle.records.specs.Layout.{KIND, START, END, NAME-LENGTH, RECTANGLE-COUNT, PERMISSION-COUNT, PADDING, valueOf}
+use Rattle.records.specs.Layout.{KIND, START, END, NAME-LENGTH, RECTANGLE-COUNT, PERMISSION-COUNT, PADDING, valueOf, slotBits}
 use Rattle.records.specs.Ranges.{InRange, Sized}
 use Rattle.records.specs.Records.{imageOf}
 use Rattle.records.specs.declared.Record.{Record}
@@ -88,7 +88,7 @@ module _ (r : Record) (ranged : InRange r) (fits : Sized r) (keeps : Rules r) wh
   pub image-good : goodSlot (imageOf r) ≡ true
   unfolding goodSlot
   image-good =
-      ap (λ (n : ℕ). pick (eqb n 0) (zeroBits (imageOf r) 0 1696) (pick (eqb n 3) false (goodRecord (imageOf r)))) (image-state r ranged fits ∙ keeps .held)
+      ap (λ (n : ℕ). pick (eqb n 0) (zeroBits (imageOf r) 0 slotBits) (pick (eqb n 3) false (goodRecord (imageOf r)))) (image-state r ranged fits ∙ keeps .held)
       ∙ record-good
 
 pub good : (s : List ℕ) (c : Certificate) → Octets s → Standing s c → goodSlot (imageOf (recordFrom s c)) ≡ true

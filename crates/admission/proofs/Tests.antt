@@ -14,11 +14,14 @@ use Rattle.scope.specs.declared.Scope.{Scope}
 use Rattle.scope.proofs.Rows.{issued-alone}
 use Rattle.records.specs.Records.{scopeOf}
 use Rattle.records.specs.declared.Record.{Record}
-use Rattle.store.specs.Slots.{slotOf, withdrawnAt}
+use Rattle.store.specs.Slots.{slotOf, idAt}
 use Rattle.store.specs.Search.{find}
+use Rattle.store.specs.Withdrawn.{withdrawnIn}
+use Rattle.store.proofs.Found.{find-finds}
 use Rattle.chain.specs.Stored.{slotOr}
 use Rattle.chain.proofs.Answers.{slot-named}
-use Rattle.admission.specs.Order.{absent, belowIssuer, belowNumber, issuerNumber, issuerSteps, issuerRefusal, testing, testNumber}
+use Rattle.admission.specs.Order.{absent, belowIssuer, issuerSteps, testing}
+use Rattle.admission.specs.Computed.{belowNumber, issuerNumber, issuerRefusal, testNumber}
 
 -- an answer that gives nothing but its passing is known by its number
 passed : (a : Answer Well) → Named a → answerNumber a ≡ 0 → a ≡ gives well
@@ -31,11 +34,11 @@ stopped (gives w) n = absurd (n refl)
 stopped (refused k) n = refl
 
 module _ (store : List ℕ) (subject : Scope) (i : ℕ) where
-  pub below-withdrawn : withdrawnAt store i ≡ true → _≡_ {A = ℕ} 8 (belowNumber store subject i)
+  pub below-withdrawn : withdrawnIn store (idAt store i) ≡ true → _≡_ {A = ℕ} 8 (belowNumber store subject i)
   unfolding belowNumber
   below-withdrawn e = sym (ap answerNumber (fails (ap not e) 8 (needs (issuedRows subject (scopeOf (slotOf store i))) (done well))))
 
-  pub below-held : withdrawnAt store i ≡ false → issuedNumber subject (scopeOf (slotOf store i)) ≡ belowNumber store subject i
+  pub below-held : withdrawnIn store (idAt store i) ≡ false → issuedNumber subject (scopeOf (slotOf store i)) ≡ belowNumber store subject i
   unfolding belowNumber
   below-held e =
       sym (ap answerNumber (passes (ap not e) 8 (needs (issuedRows subject (scopeOf (slotOf store i))) (done well)))
@@ -44,11 +47,13 @@ module _ (store : List ℕ) (subject : Scope) (i : ℕ) where
 module _ (store : List ℕ) (id : ℕ) (subject : Scope) where
   pub issuer-unknown : find store id ≡ none → _≡_ {A = ℕ} 7 (issuerNumber store id subject)
   unfolding issuerNumber
-  issuer-unknown e = sym (ap answerNumber (halts (ap (slotOr 7) e) (belowIssuer store subject)))
+  issuer-unknown e = sym (ap answerNumber (halts (ap (slotOr 7) e) (belowIssuer store id subject)))
 
   pub issuer-found : (i : ℕ) → find store id ≡ some i → belowNumber store subject i ≡ issuerNumber store id subject
   unfolding issuerNumber belowNumber
-  issuer-found i e = sym (ap answerNumber (takes (ap (slotOr 7) e) (belowIssuer store subject)))
+  issuer-found i e =
+      ap (λ (x : ℕ). answerNumber (run (belowIssuer store x subject i))) (find-finds store id i e .2)
+      ∙ sym (ap answerNumber (takes (ap (slotOr 7) e) (belowIssuer store id subject)))
 
 pub issuer-numbered : (anchor : Bool) (store : List ℕ) (r : Record) → Numbered (issuerSteps anchor store r)
 issuer-numbered true store r = tt

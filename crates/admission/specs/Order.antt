@@ -5,7 +5,8 @@ use mathlib.Core.List.{List}
 use mathlib.Core.Option.{Option, none, some}
 use lib.ListN.{length}
 use lib.Dec.{eqb}
-use Rattle.order.specs.Steps.{Answer, gives, refused, number as answerNumber, Steps, done, need, take, needs, follow, run, Well, well}
+use Rattle.order.specs.Steps.{Answer, gives, refused, Steps, done, need, take, needs, follow, run, Well, well}
+use Rattle.octets.specs.Kinds.{TICKET, AUTHORITY, ROOT}
 use Rattle.octets.specs.Refusals.{ACCEPTED, BAD-CALL, BAD-STORE, UNKNOWN, WITHDRAWN, WRONG-KIND, BAD-SIGNATURE, FULL, ALREADY-HELD}
 use Rattle.octets.specs.Reading.{pick}
 use Rattle.certificate.specs.Operations.{whole}
@@ -14,42 +15,33 @@ use Rattle.scope.specs.Issued.{issuedRows}
 use Rattle.scope.specs.declared.Scope.{Scope}
 use Rattle.records.specs.Records.{scopeOf, imageOf}
 use Rattle.records.specs.declared.Record.{Record}
-use Rattle.store.specs.Slots.{storeLength, slotOf, withSlot, withdrawnAt}
+use Rattle.store.specs.Slots.{storeLength, slotOf, withSlot}
 use Rattle.store.specs.Search.{find, lowestEmpty}
+use Rattle.store.specs.Withdrawn.{withdrawnIn}
 use Rattle.chain.specs.Stored.{answered, slotOr}
 use Rattle.validity.specs.Valid.{validStore}
 use Rattle.entries.specs.Stored.{recordFrom}
 
 -- install wants a root, admit a ticket or an authority
 abbrev pub wanted : Bool → ℕ → Bool
-wanted anchor kind = pick anchor (eqb kind 4) (eqb kind 1 || eqb kind 2)
+wanted anchor kind = pick anchor (eqb kind ROOT) (eqb kind TICKET || eqb kind AUTHORITY)
 
 abbrev pub absent : Option ℕ → Bool
 absent none = true
 absent (some i) = false
 
 -- an issuer that is stored: it is not withdrawn, and it allows what the certificate allows; no second and no position (docs/DECISIONS.md 31)
-abbrev pub belowIssuer : List ℕ → Scope → ℕ → Steps Well
-belowIssuer store subject i =
-    need WITHDRAWN (not (withdrawnAt store i)) (needs (issuedRows subject (scopeOf (slotOf store i))) (done well))
+abbrev pub belowIssuer : List ℕ → ℕ → Scope → ℕ → Steps Well
+belowIssuer store id subject i =
+    need WITHDRAWN (not (withdrawnIn store id)) (needs (issuedRows subject (scopeOf (slotOf store i))) (done well))
 
 abbrev pub underIssuer : List ℕ → ℕ → Scope → Steps Well
-underIssuer store id subject = take (slotOr UNKNOWN (find store id)) (belowIssuer store subject)
-
--- their numbers, 0 if all pass: what the code of these tests answers
-unfoldable pub belowNumber : List ℕ → Scope → ℕ → ℕ
-belowNumber store subject i = answerNumber (run (belowIssuer store subject i))
-
-unfoldable pub issuerNumber : List ℕ → ℕ → Scope → ℕ
-issuerNumber store id subject = answerNumber (run (underIssuer store id subject))
+underIssuer store id subject = take (slotOr UNKNOWN (find store id)) (belowIssuer store id subject)
 
 -- an anchor has no issuer
 abbrev pub issuerSteps : Bool → List ℕ → Record → Steps Well
 issuerSteps true store r = done well
 issuerSteps false store r = underIssuer store (number (r .issuer)) (r .scope)
-
-unfoldable pub issuerRefusal : Bool → List ℕ → Record → ℕ
-issuerRefusal anchor store r = answerNumber (run (issuerSteps anchor store r))
 
 -- the tests of a record that is to go into the store
 abbrev pub testing : Bool → List ℕ → Record → ℕ → Steps Well
@@ -58,9 +50,6 @@ testing anchor store r verdict =
     (take (run (issuerSteps anchor store r)) (λ w.
     need BAD-SIGNATURE (eqb verdict 1)
     (done well)))
-
-unfoldable pub testNumber : Bool → List ℕ → Record → ℕ → ℕ
-testNumber anchor store r verdict = answerNumber (run (testing anchor store r verdict))
 
 -- what comes of it is the new store: the record in the lowest empty slot
 abbrev pub placing : Bool → List ℕ → Record → ℕ → Steps (List ℕ)
@@ -83,9 +72,6 @@ entering anchor store octets verdict =
 abbrev pub leaving : List ℕ → Answer (List ℕ) → ℕ × List ℕ
 leaving store (gives l) = (ACCEPTED, l)
 leaving store (refused k) = (k, store)
-
-unfoldable pub placed : Bool → List ℕ → Record → ℕ → ℕ × List ℕ
-placed anchor store r verdict = leaving store (run (placing anchor store r verdict))
 
 unfoldable pub entered : Bool → List ℕ → List ℕ → ℕ → ℕ × List ℕ
 entered anchor store octets verdict = leaving store (run (entering anchor store octets verdict))

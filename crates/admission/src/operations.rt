@@ -4,7 +4,8 @@ ghost use Prim.Native.Nat.{ℕ};
 ghost use lib.ListN.{length};
 ghost use Rattle.records.specs.Ranges.{InRange};
 ghost use Rattle.bitfields.specs.Field.{number};
-ghost use Rattle.admission.specs.Order.{wanted, absent, issuerRefusal, testNumber, placed, entered, installed, admitted};
+ghost use Rattle.admission.specs.Order.{wanted, absent, entered, installed, admitted};
+ghost use Rattle.admission.specs.Computed.{issuerRefusal, testNumber, placed};
 ghost use Rattle.store.specs.Search.{find};
 ghost use Rattle.store.specs.Slots.{storeLength};
 use crate::issuers::issuer_number;
@@ -12,6 +13,9 @@ use certificate::operations::whole_outline;
 use certificate::outlines::OutlineRead;
 use entries::as_number;
 use entries::record_from;
+use octets::kinds::AUTHORITY;
+use octets::kinds::ROOT;
+use octets::kinds::TICKET;
 use octets::refusals::ACCEPTED;
 use octets::refusals::ALREADY_HELD;
 use octets::refusals::BAD_CALL;
@@ -43,9 +47,9 @@ fn takes(anchor: bool, kind: u8) -> bool
     ensures { λ r. ⌜ r ≡ wanted anchor kind ⌝ }
 {
     if anchor {
-        return kind == 4;
+        return kind == ROOT;
     }
-    (kind == 1) | (kind == 2)
+    (kind == TICKET) | (kind == AUTHORITY)
 }
 
 // The tests of a record's issuer, which an anchor has not: the number of the refusal, or 0.

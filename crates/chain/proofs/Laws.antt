@@ -18,7 +18,8 @@ use Rattle.chain.specs.declared.subjects.Place.{Place}
 use Rattle.chain.specs.declared.subjects.Place.the-variants.{Anywhere}
 use Rattle.chain.specs.Walk.{ownRows, meets}
 use Rattle.chain.specs.Chains.{Sound, Root, Chain, anchor, link, top}
-use Rattle.chain.specs.Stored.{subjectAt, subjectOr, issuerIn, withdrawnIn, walkNumber, stands}
+use Rattle.chain.specs.Stored.{subjectAt, subjectOr, issuerIn, walkNumber, followers, stands}
+use Rattle.store.specs.Withdrawn.{withdrawnIn}
 use Rattle.chain.specs.Laws.{Passed, StoredIn, Laws}
 use Rattle.chain.proofs.Walks.{walk-exactly, chain-map}
 use Rattle.chain.proofs.Stopped.{walk-stops}
@@ -78,10 +79,10 @@ stranger : (gone gone' : ℕ → Bool) (x : ℕ) → ((y : ℕ) → ¬ (y ≡ x)
 unfolding walkNumber
 stranger gone gone' x same l t p n c f = ap number (met.stranger (issuerIn l) gone gone' x same t p n c f)
 
-pub stands-exactly : (l : List ℕ) (t i : ℕ) → filledAt l i ≡ true → (stands l t i ≡ true) ↔ Chain (issuerIn l) (Sound (withdrawnIn l) t Anywhere) 7 (subjectAt l i)
+pub stands-exactly : (l : List ℕ) (t i : ℕ) → filledAt l i ≡ true → (stands l t i ≡ true) ↔ Chain (issuerIn l) (Sound (withdrawnIn l) t Anywhere) followers (subjectAt l i)
 unfolding stands
 stands-exactly l t i f =
-    let e = accepted-exactly (withdrawnIn l) l t Anywhere 7 (subjectAt l i) in (
+    let e = accepted-exactly (withdrawnIn l) l t Anywhere followers (subjectAt l i) in (
       (λ z. e .0 (eqb-true _ 0 (and-split (filledAt l i) _ z .1))),
       (λ k. and-join (filledAt l i) _ f (eq-eqb _ 0 (e .1 k))),
     )

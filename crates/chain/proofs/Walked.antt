@@ -15,13 +15,14 @@ use Rattle.records.specs.Layout.{KIND, valueOf}
 use Rattle.records.specs.Records.{scopeOf}
 use Rattle.store.specs.Slots.{slotOf, idAt}
 use Rattle.store.specs.Search.{find}
-use Rattle.store.proofs.Found.{find-finds}
+use Rattle.store.proofs.Found.{find-finds, found-again}
 use Rattle.chain.specs.declared.subjects.Subject.{Subject}
 use Rattle.chain.specs.declared.subjects.Place.{Place}
 use Rattle.chain.specs.declared.subjects.Place.the-variants.{Anywhere, At}
 use Rattle.chain.specs.Walk.{placeRows, ownRows, climb}
 use Rattle.chain.specs.Chains.{Root}
-use Rattle.chain.specs.Stored.{slotOr, subjectOr, subjectAt, issuerIn, walkNumber, ownNumber, linked, upward, walkedOn, Leads}
+use Rattle.chain.specs.Stored.{slotOr, subjectOr, subjectAt, issuerIn, walkNumber}
+use Rattle.chain.specs.Computed.{ownNumber, linked, upward, walkedOn, Leads}
 use Rattle.chain.proofs.Coding as coding
 
 place-coded : (p : Place) (s : Scope) → Coded (placeRows p s)
@@ -77,9 +78,6 @@ up-linked l c j e = rw e
 pub kind-of : (l : List ℕ) (i : ℕ) → valueOf (slotOf l i) KIND ≡ subjectAt l i .scope .kind
 unfolding subjectAt scopeOf
 kind-of l i = refl
-
-pub found-again : (l : List ℕ) (x j : ℕ) → find l x ≡ some j → find l (idAt l j) ≡ some j
-found-again l x j e = ap (find l) (find-finds l x j e .2) ∙ e
 
 pub up-found : (l : List ℕ) (c : Subject) (j : ℕ) → upward l c ≡ gives j → (j < 64) × (find l (idAt l j) ≡ some j)
 unfolding upward

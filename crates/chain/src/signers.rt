@@ -1,14 +1,19 @@
 ghost use mathlib.Core.Path.{_≡_};
 ghost use Prim.Native.Nat.{_<_};
 ghost use lib.ListN.{length};
-ghost use Rattle.chain.specs.Stored.{withdrawnIn, placeNumber, ownNumber, walkNumber, upOf, linked, upward};
+ghost use Rattle.chain.specs.Stored.{walkNumber};
+ghost use Rattle.chain.specs.Computed.{placeNumber, ownNumber, upOf, linked, upward, Leads, walkedOn};
+ghost use Rattle.store.specs.Withdrawn.{withdrawnIn};
 ghost use Rattle.store.specs.Slots.{slotCount, storeLength};
 use crate::steps::Up;
 use crate::steps::place_in;
 use crate::subjects::Place;
 use crate::subjects::Subject;
-use crate::walking::walk_at;
+use crate::walking::NO_SLOT;
+use crate::walking::walk_on;
+use octets::kinds::ROOT;
 use octets::refusals::ACCEPTED;
+use octets::refusals::CHAIN_TOO_LONG;
 use octets::refusals::OUTSIDE_PERIOD;
 use octets::refusals::UNKNOWN;
 use octets::refusals::WITHDRAWN;
@@ -17,18 +22,7 @@ use scope::issued_by;
 use store::search::Found;
 use store::search::find_id;
 use store::slots::scope_at;
-use store::slots::withdrawn;
-
-// Whether the certificate with an id is stored and counts as withdrawn.
-fn withdrawn_id(store: &[u8], id: u64) -> bool
-    requires { ⌜ length (now store) ≡ storeLength ⌝ }
-    ensures { λ r. ⌜ r ≡ withdrawnIn (now (store .entry)) id ⌝ }
-{
-    match find_id(store, id) {
-        Found::Nowhere => false,
-        Found::At(slot) => withdrawn(store, slot),
-    }
-}
+use store::withdrawals::withdrawn_id;
 
 // The test of the position, if one is asked.
 fn place_of(scope: Scope, place: Place) -> u8
@@ -85,21 +79,31 @@ fn step_from(store: &[u8], subject: Subject) -> Up
     }
 }
 
-// The walk from a certificate, stored or not; seven more may follow it. Those are stored, so from the issuer on it goes by slots.
-pub fn walk(store: &[u8], subject: Subject, second: u64, place: Place) -> u8
+// A certificate at the start of a walk, stored or not: its own tests, then its end at a root or the step to its issuer in the store,
+// if one more may follow.
+fn first_step(store: &[u8], subject: Subject, second: u64, place: Place, left: u8) -> Up
     requires { ⌜ length (now store) ≡ storeLength ⌝ }
-    ensures { λ r. ⌜ r ≡ walkNumber (withdrawnIn (now (store .entry))) (now (store .entry)) second place 7 subject ⌝ }
+    ensures { λ r. ⌜ Leads (now (store .entry)) left (upOf r) × (walkedOn (withdrawnIn (now (store .entry))) (now (store .entry)) second place left (upOf r) ≡ walkNumber (withdrawnIn (now (store .entry))) (now (store .entry)) second place left subject) ⌝ }
 {
     let refusal = own(store, subject, second, place);
     if refusal != ACCEPTED {
-        return refusal;
+        return Up::Stop(refusal);
     }
     let scope = subject.scope;
-    if scope.kind == 4 {
-        return ACCEPTED;
+    if scope.kind == ROOT {
+        return Up::Stop(ACCEPTED);
     }
-    match step_from(store, subject) {
-        Up::Stop(number) => number,
-        Up::On(issuer) => walk_at(store, issuer, second, place, 6, 64),
+    if left == 0 {
+        return Up::Stop(CHAIN_TOO_LONG);
     }
+    step_from(store, subject)
+}
+
+// The walk from a certificate, stored or not; at most `left` may follow it. Those are stored, so from the issuer on it goes by slots.
+pub fn walk(store: &[u8], subject: Subject, second: u64, place: Place, left: u8) -> u8
+    requires { ⌜ length (now store) ≡ storeLength ⌝ }
+    ensures { λ r. ⌜ r ≡ walkNumber (withdrawnIn (now (store .entry))) (now (store .entry)) second place left subject ⌝ }
+{
+    let first = first_step(store, subject, second, place, left);
+    walk_on(store, first, second, place, left, NO_SLOT)
 }

@@ -2,3 +2,4 @@ pub mod Times
 pub mod Places
 pub mod Copies
 pub mod Signers
+pub mod Computed

@@ -5,16 +5,21 @@ ghost use lib.ListN.{length};
 ghost use Rattle.records.specs.Records.{recordOf};
 ghost use Rattle.store.specs.Slots.{slotCount, storeLength, slotOf, idAt};
 ghost use Rattle.store.specs.Search.{find};
-ghost use Rattle.signing.specs.Signers.{subjectOf, entitledNumber};
+ghost use Rattle.signing.specs.Signers.{subjectOf};
+ghost use Rattle.signing.specs.Computed.{entitledNumber};
 use crate::places::position_of;
+use crate::times::SECOND;
 use chain::issuers::allows_at;
 use chain::signers::walk;
 use chain::subjects::Place;
 use chain::subjects::Position;
 use chain::subjects::Subject;
+use chain::walking::FOLLOWERS;
+use chain::walking::NO_SLOT;
 use chain::walking::walk_at;
 use entries::as_number;
 use headers::fields::Fields;
+use octets::kinds::TICKET;
 use octets::refusals::ACCEPTED;
 use octets::refusals::NOT_PERMITTED;
 use octets::refusals::WRONG_KIND;
@@ -41,7 +46,7 @@ pub fn entitled_at(store: &[u8], slot: usize, fields: Fields, own: Position) -> 
     requires { ⌜ (slot < slotCount) × (length (now store) ≡ storeLength) × (find (now store) (idAt (now store) slot) ≡ some slot) ⌝ }
     ensures { λ n. ⌜ n ≡ entitledNumber (now (store .entry)) fields own (recordOf (slotOf (now (store .entry)) slot)) ⌝ }
 {
-    if kind_at(store, slot) != 1 {
+    if kind_at(store, slot) != TICKET {
         return WRONG_KIND;
     }
     let location = fields.location;
@@ -49,10 +54,10 @@ pub fn entitled_at(store: &[u8], slot: usize, fields: Fields, own: Position) -> 
     let refusal = walk_at(
         store,
         slot,
-        fields.generation.time / 1_000_000,
+        fields.generation.time / SECOND,
         place,
-        7,
-        64,
+        FOLLOWERS,
+        NO_SLOT,
     );
     if refusal != ACCEPTED {
         return refusal;
@@ -69,7 +74,7 @@ pub fn entitled(store: &[u8], r: Record, fields: Fields, own: Position) -> u8
     ensures { λ n. ⌜ n ≡ entitledNumber (now (store .entry)) fields own r ⌝ }
 {
     let scope = r.scope;
-    if scope.kind != 1 {
+    if scope.kind != TICKET {
         return WRONG_KIND;
     }
     let location = fields.location;
@@ -77,8 +82,9 @@ pub fn entitled(store: &[u8], r: Record, fields: Fields, own: Position) -> u8
     let refusal = walk(
         store,
         subject_of(r),
-        fields.generation.time / 1_000_000,
+        fields.generation.time / SECOND,
         place,
+        FOLLOWERS,
     );
     if refusal != ACCEPTED {
         return refusal;

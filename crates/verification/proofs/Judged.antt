@@ -18,7 +18,8 @@ use Rattle.chain.specs.Stored.{answered}
 use Rattle.chain.proofs.Answers.{read-named}
 use Rattle.signing.specs.Times.{inTime}
 use Rattle.signing.specs.Places.{inRange}
-use Rattle.signing.specs.Signers.{signed, identityOf, signerJudged, signerOf}
+use Rattle.signing.specs.Signers.{signed}
+use Rattle.signing.specs.Computed.{identityOf, signerJudged, signerOf}
 use Rattle.verification.specs.Order.{ownPosition, Passed, passed, judging, judgedRefused, judgedOf, judgement}
 use Rattle.verification.specs.declared.judging.Situation.{Situation}
 use Rattle.signing.specs.declared.signers.Identity.{Identity}

@@ -33,7 +33,8 @@ use Rattle.store.proofs.Stored.{slot-long}
 use Rattle.validity.specs.Good.{goodKind, goodPeriod, goodName, goodRegion, goodPermissions, goodPadding, goodRecord, goodSlot}
 use Rattle.validity.specs.Laws.{Valid}
 use Rattle.chain.specs.Chains.{Sound, Chain}
-use Rattle.chain.specs.Stored.{slotOr, issuerIn, withdrawnIn, followers}
+use Rattle.chain.specs.Stored.{slotOr, issuerIn, followers}
+use Rattle.store.specs.Withdrawn.{withdrawnIn}
 use Rattle.chain.specs.declared.subjects.Position.{Position}
 use Rattle.chain.specs.declared.subjects.Place.the-variants.{At}
 use Rattle.chain.proofs.Answers.{slot-given}

@@ -17,7 +17,8 @@ use Rattle.store.specs.Laws.{Holds}
 use Rattle.validity.specs.Laws.{Valid}
 use Rattle.layout.specs.WellFormed.{Within}
 use Rattle.chain.specs.Chains.{Sound, Chain}
-use Rattle.chain.specs.Stored.{issuerIn, withdrawnIn, followers}
+use Rattle.chain.specs.Stored.{issuerIn, followers}
+use Rattle.store.specs.Withdrawn.{withdrawnIn}
 use Rattle.chain.specs.declared.subjects.Place.the-variants.{At}
 use Rattle.entries.specs.Stored.{partOf, recordFrom}
 use Rattle.signing.specs.Times.{longestAge, allowedAge, wholeSecond}

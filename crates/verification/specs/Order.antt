@@ -25,7 +25,8 @@ use Rattle.chain.specs.declared.subjects.Position.{Position}
 use Rattle.signing.specs.Times.{longestAge, inTime}
 use Rattle.signing.specs.Places.{inRange}
 use Rattle.signing.specs.declared.signers.PublicKey.{PublicKey}
-use Rattle.signing.specs.Signers.{carries, signed, publicKey, identityOf, nobody}
+use Rattle.signing.specs.Signers.{carries, signed, publicKey}
+use Rattle.signing.specs.Computed.{identityOf, nobody}
 use Rattle.verification.specs.declared.judging.Situation.{Situation}
 use Rattle.verification.specs.declared.judging.Judged.{Judged}
 use Rattle.verification.specs.declared.operations.Decision.{Decision}

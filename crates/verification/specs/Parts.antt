@@ -6,7 +6,7 @@ use Rattle.message.specs.Messages.{Message}
 use Rattle.message.specs.Parts.{messageParts}
 use Rattle.message.specs.declared.messages.MessageParts.{MessageParts}
 use Rattle.chain.specs.declared.subjects.Position.{Position}
-use Rattle.signing.specs.Signers.{signerOf}
+use Rattle.signing.specs.Computed.{signerOf}
 use Rattle.signing.specs.declared.signers.SignerJudged.{SignerJudged}
 use Rattle.verification.specs.Accepted.{Reads}
 

@@ -14,12 +14,14 @@ use Rattle.octets.specs.Refusals.{BAD-CALL, BAD-STORE, UNKNOWN, WITHDRAWN}
 use Rattle.bitfields.specs.Field.{number}
 use Rattle.bitfields.specs.Words.{wordAt}
 use Rattle.bitfields.proofs.Window.{word-number}
-use Rattle.store.specs.Slots.{withdrawnAt}
+use Rattle.store.specs.Slots.{storeLength, idAt}
 use Rattle.store.specs.Search.{find}
 use Rattle.store.proofs.Found.{find-finds}
 use Rattle.validity.specs.Valid.{validStore}
-use Rattle.chain.specs.Stored.{slotOr, withdrawnIn}
-use Rattle.withdrawal.specs.Order.{asking, asked, heldAt, withdrawnFrom, withdrawal, refusedList, listedFor, page}
+use Rattle.chain.specs.Stored.{slotOr}
+use Rattle.store.specs.Withdrawn.{withdrawnIn}
+use Rattle.withdrawal.specs.Order.{asking, asked, withdrawnFrom, withdrawal, refusedList, listedFor, page}
+use Rattle.withdrawal.specs.Computed.{heldAt}
 
 slot-or : (k i : ℕ) (o : Option ℕ) → slotOr k o ≡ gives i → o ≡ some i
 slot-or k i none e = absurd (gives-refused i k e)
@@ -27,7 +29,7 @@ slot-or k i (some j) e = let same : j ≡ i = cc in ap (λ (n : ℕ). some n) sa
 
 -- what is known of a certificate that may be asked for
 pub record Held (s id : List ℕ) (c : ℕ) : Type 0 where
-  pub long : length s ≡ 13568
+  pub long : length s ≡ storeLength
   pub id-long : length id ≡ 8
   pub good : validStore s ≡ true
   pub found : find s (number id) ≡ some c
@@ -50,11 +52,11 @@ asked-held s id c e =
 pub held-below : (s id : List ℕ) (c : ℕ) → Held s id c → c < 64
 held-below s id c h = find-finds s (number id) c (h .found) .0
 
-pub held-gone : (s : List ℕ) (i : ℕ) → withdrawnAt s i ≡ true → refused WITHDRAWN ≡ heldAt s i
+pub held-gone : (s : List ℕ) (i : ℕ) → withdrawnIn s (idAt s i) ≡ true → refused WITHDRAWN ≡ heldAt s i
 unfolding heldAt
 held-gone s i e = rw e
 
-pub held-still : (s : List ℕ) (i : ℕ) → withdrawnAt s i ≡ false → gives i ≡ heldAt s i
+pub held-still : (s : List ℕ) (i : ℕ) → withdrawnIn s (idAt s i) ≡ false → gives i ≡ heldAt s i
 unfolding heldAt
 held-still s i e = rw e
 
@@ -64,11 +66,11 @@ id-number id e = word-number id 0 (omega arith) ∙ ap number (take-all 8 id (om
 
 -- the tests in their order
 module _ (s id : List ℕ) where
-  pub asked-short : ¬ (length s ≡ 13568) → refused BAD-CALL ≡ asked s id
+  pub asked-short : ¬ (length s ≡ storeLength) → refused BAD-CALL ≡ asked s id
   unfolding asked
   asked-short n = sym (fails (ne-eqb _ _ n) _ _)
 
-  module _ (long : length s ≡ 13568) where
+  module _ (long : length s ≡ storeLength) where
     pub asked-id : ¬ (length id ≡ 8) → refused BAD-CALL ≡ asked s id
     unfolding asked
     asked-id n = sym (passes (eq-eqb _ _ long) _ _ ∙ fails (ne-eqb _ _ n) _ _)
@@ -87,12 +89,15 @@ module _ (s id : List ℕ) where
         asked-unknown e = sym (to-find ∙ halts (ap (slotOr UNKNOWN) e) _)
 
         pub asked-at : (c : ℕ) → find s (number id) ≡ some c → heldAt s c ≡ asked s id
-        unfolding heldAt withdrawnIn run
-        asked-at c e = by (withdrawnAt s c) refl
+        unfolding heldAt run
+        asked-at c e = by (withdrawnIn s (number id)) refl
           where
-            by : (b : Bool) → withdrawnAt s c ≡ b → pick (withdrawnAt s c) (refused WITHDRAWN) (gives c) ≡ asked s id
-            by true q = sym (to-find ∙ rw (e, q))
-            by false q = sym (to-find ∙ rw (e, q))
+            same : withdrawnIn s (idAt s c) ≡ withdrawnIn s (number id)
+            same = ap (withdrawnIn s) (find-finds s (number id) c e .2)
+
+            by : (b : Bool) → withdrawnIn s (number id) ≡ b → pick (withdrawnIn s (idAt s c)) (refused WITHDRAWN) (gives c) ≡ asked s id
+            by true q = sym (to-find ∙ rw (e, same, q))
+            by false q = sym (to-find ∙ rw (e, same, q))
 
 -- list and withdraw go by them
 pub page-short : (s id : List ℕ) (t : ℕ) (l : List ℕ) → length l < 64 → refusedList BAD-CALL l s ≡ page s id t l

@@ -12,13 +12,14 @@ use borrow.Author.Tests.{ne-eqb, not-true}
 use Rattle.order.specs.Steps.{gives}
 use Rattle.bitfields.specs.Field.{number}
 use Rattle.geo.proofs.Bools.{and-split, and-join, same-test}
-use Rattle.store.specs.Slots.{GONE, stateAt}
+use Rattle.store.specs.Slots.{GONE, stateAt, storeLength}
 use Rattle.store.specs.Search.{find}
-use Rattle.store.proofs.Found.{find-only}
+use Rattle.store.specs.Withdrawn.{withdrawnIn}
+use Rattle.store.proofs.Found.{find-only, withdrawn-found}
 use Rattle.store.proofs.Withdrawn.{bit-kept, state-gone, long-kept}
 use Rattle.validity.proofs.Laws as validity
 use Rattle.chain.specs.Stored.{stands}
-use Rattle.withdrawal.specs.SlotSets.{front}
+use Rattle.octets.specs.Buffers.{withFront}
 use Rattle.withdrawal.specs.Order.{asked, after, falls, affected, withdrawal, Listing, written, listedFor, page}
 use Rattle.withdrawal.specs.Demand.{Stored, Stands, Demand3, Asked, Demand, Kept3}
 use Rattle.withdrawal.proofs.SlotSets.{mem-to, mem-from, slots-sorted, slots-fit, slots-none}
@@ -58,20 +59,20 @@ affected-exactly s s' t i = (
 
 -- the front of a list that was written
 module _ (a l : List ℕ) (fits : length a ≤ length l) where
-  front-named : take (length a) (front a l) ≡ a
+  front-named : take (length a) (withFront a l) ≡ a
   front-named = take-append-seam a (drop (length a) l)
 
-  front-long : length (front a l) ≡ length l
+  front-long : length (withFront a l) ≡ length l
   front-long = omega (arith, length-append a (drop (length a) l), length-drop (length a) l)
 
-  front-behind : (k : ℕ) → length a ≤ k → getD (front a l) k 0 ≡ getD l k 0
+  front-behind : (k : ℕ) → length a ≤ k → getD (withFront a l) k 0 ≡ getD l k 0
   front-behind k h =
       let e : length a + (k - length a) ≡ k = omega arith in
-      ap (λ (m : ℕ). getD (front a l) m 0) (sym e) ∙ getD-append-add a (drop (length a) l) (k - length a) 0
+      ap (λ (m : ℕ). getD (withFront a l) m 0) (sym e) ∙ getD-append-add a (drop (length a) l) (k - length a) 0
       ∙ getD-drop (length a) l (k - length a) 0 ∙ ap (λ (m : ℕ). getD l m 0) e
 
 module _ (s : List ℕ) (c t : ℕ) (id l : List ℕ) (asks : Asked s c id l) where
-  size : length s ≡ 13568
+  size : length s ≡ storeLength
   size = asks .valid .size
 
   found : find s (number id) ≡ some c
@@ -79,7 +80,7 @@ module _ (s : List ℕ) (c t : ℕ) (id l : List ℕ) (asks : Asked s c id l) wh
 
   place : asked s id ≡ gives c
   place =
-      sym (asked-at s id size (asks .id-long) (validity.laws .valid-exactly s .1 (asks .valid)) c found) ∙ sym (held-still s c (ne-eqb (stateAt s c) GONE (omega (arith, asks .not-withdrawn))))
+      sym (asked-at s id size (asks .id-long) (validity.laws .valid-exactly s .1 (asks .valid)) c found) ∙ sym (held-still s c (ap (withdrawnIn s) (asks .id-of) ∙ withdrawn-found s (number id) c found ∙ ne-eqb (stateAt s c) GONE (omega (arith, asks .not-withdrawn))))
 
   withdraws : withdrawal s id ≡ (0, after s c)
   withdraws = sym (withdrawal-asked s id (gives c) place)
@@ -105,7 +106,7 @@ module _ (s : List ℕ) (c t : ℕ) (id l : List ℕ) (asks : Asked s c id l) wh
   holds-here =
       let a : List ℕ = affected s (after s c) t in
       let fits : length a ≤ length l = omega (arith, affected-fit s (after s c) t, asks .room) in
-      let n : take (length a) (front a l) ≡ a = front-named a l fits in
+      let n : take (length a) (withFront a l) ≡ a = front-named a l fits in
       record {
         listed = refl;
         withdrew = refl;

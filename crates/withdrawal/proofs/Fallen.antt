@@ -18,9 +18,12 @@ use Rattle.validity.specs.Valid.{validStore}
 use Rattle.validity.specs.Laws.{Valid}
 use Rattle.validity.proofs.Laws as validity
 use Rattle.chain.specs.declared.subjects.Place.the-variants.{Anywhere}
-use Rattle.chain.specs.Stored.{subjectAt, alsoAt, walkNumber}
-use Rattle.withdrawal.specs.SlotSets.{slotsFrom, bit, bitsFrom, slotsIn, front}
-use Rattle.withdrawal.specs.Order.{after, falls, affected, fallsWith, Listing, written, listedFor}
+use Rattle.chain.specs.Stored.{subjectAt, walkNumber, followers}
+use Rattle.chain.specs.Computed.{noSlot, alsoAt}
+use Rattle.withdrawal.specs.SlotSets.{slotsFrom}
+use Rattle.octets.specs.Buffers.{withFront}
+use Rattle.withdrawal.specs.Computed.{bit, bitsFrom, slotsIn, fallsWith}
+use Rattle.withdrawal.specs.Order.{after, falls, affected, Listing, written, listedFor}
 use Rattle.withdrawal.proofs.SlotSets.{ones-bits, slots-same}
 use Rattle.withdrawal.proofs.Writes.{slots-in}
 use Rattle.withdrawal.proofs.Frame.{falls-with}
@@ -38,15 +41,15 @@ module _ (s : List ℕ) (t c i : ℕ) where
   falls-empty e = rw e
 
   module _ (f : filledAt s i ≡ true) where
-    pub falls-not : walkNumber (alsoAt s c) s t Anywhere 7 (subjectAt s i) ≡ 0 → 0 ≡ bit (fallsWith s t c i)
+    pub falls-not : walkNumber (alsoAt s c) s t Anywhere followers (subjectAt s i) ≡ 0 → 0 ≡ bit (fallsWith s t c i)
     unfolding bit fallsWith
     falls-not e = rw (f, e, and-false)
 
-    pub falls-never : ¬ (walkNumber (alsoAt s 64) s t Anywhere 7 (subjectAt s i) ≡ 0) → 0 ≡ bit (fallsWith s t c i)
+    pub falls-never : ¬ (walkNumber (alsoAt s noSlot) s t Anywhere followers (subjectAt s i) ≡ 0) → 0 ≡ bit (fallsWith s t c i)
     unfolding bit fallsWith
     falls-never n = rw (f, ne-eqb _ 0 n)
 
-    pub falls-here : ¬ (walkNumber (alsoAt s c) s t Anywhere 7 (subjectAt s i) ≡ 0) → walkNumber (alsoAt s 64) s t Anywhere 7 (subjectAt s i) ≡ 0 → 1 ≡ bit (fallsWith s t c i)
+    pub falls-here : ¬ (walkNumber (alsoAt s c) s t Anywhere followers (subjectAt s i) ≡ 0) → walkNumber (alsoAt s noSlot) s t Anywhere followers (subjectAt s i) ≡ 0 → 1 ≡ bit (fallsWith s t c i)
     unfolding bit fallsWith
     falls-here n e = rw (f, e, ne-eqb _ 0 n)
 
@@ -57,11 +60,11 @@ module _ (s : List ℕ) (c t : ℕ) (are : Octets s) (good : validStore s ≡ tr
   slots-affected =
       slots-same (fallsWith s t c) (falls s (after s c) t) 0 64 (λ i l u. falls-with s c are (valid-of s good .size) h f t i (omega arith))
 
-  pub by-set : (l : List ℕ) (x : ℕ) (o : List ℕ) → x ≡ bitsFrom (fallsWith s t c) 0 64 → o ≡ front (slotsIn x 0 64) l
+  pub by-set : (l : List ℕ) (x : ℕ) (o : List ℕ) → x ≡ bitsFrom (fallsWith s t c) 0 64 → o ≡ withFront (slotsIn x 0 64) l
       → _≡_ {A = Listing} (record { number = 0; n = ones x; list = o; store = s }) (listedFor s t l (gives c))
   unfolding listedFor
   by-set l x o e q =
       let A : List ℕ = slotsFrom (fallsWith s t c) 0 64 in
       let m : ones x ≡ length A = ap ones e ∙ ones-bits (fallsWith s t c) 0 64 in
-      let w : o ≡ front A l = q ∙ ap (λ (r : List ℕ). front r l) (ap (λ (n : ℕ). slotsIn n 0 64) e ∙ slots-in (fallsWith s t c) 0 64) in
+      let w : o ≡ withFront A l = q ∙ ap (λ (r : List ℕ). withFront r l) (ap (λ (n : ℕ). slotsIn n 0 64) e ∙ slots-in (fallsWith s t c) 0 64) in
       (λ d. record { number = 0; n = m d; list = w d; store = s }) ∙ ap (λ (r : List ℕ). written r l s) slots-affected

@@ -13,7 +13,7 @@ use Rattle.order.specs.Steps.{Answer, gives, number, run}
 use Rattle.octets.specs.Refusals.{UNKNOWN}
 use Rattle.bitfields.specs.Field.{Octets}
 use Rattle.geo.proofs.Bools.{and-split, and-join}
-use Rattle.store.specs.Slots.{filledAt, withdrawnAt, idAt}
+use Rattle.store.specs.Slots.{filledAt, withdrawnAt, idAt, storeLength}
 use Rattle.store.specs.Search.{find}
 use Rattle.store.specs.Laws.{Distinct}
 use Rattle.store.proofs.Found.{find-finds}
@@ -24,12 +24,15 @@ use Rattle.chain.specs.declared.subjects.Place.the-variants.{Anywhere}
 use Rattle.chain.specs.Walk.{ownRows, walk}
 use Rattle.chain.specs.Chains.{Sound, Chain}
 use Rattle.chain.specs.Laws.{StoredIn, Passed}
-use Rattle.chain.specs.Stored.{subjectAt, subjectOr, issuerIn, atFound, withdrawnIn, alsoAt, walkNumber, standsBy, stands}
+use Rattle.chain.specs.Stored.{subjectAt, subjectOr, issuerIn, walkNumber, followers, standsBy, stands}
+use Rattle.chain.specs.Computed.{noSlot, alsoAt}
+use Rattle.store.specs.Withdrawn.{atFound, withdrawnIn}
 use Rattle.chain.proofs.Own.{none-also}
 use Rattle.chain.proofs.Walks.{chain-map}
 use Rattle.chain.proofs.Chains as chains
 use Rattle.chain.proofs.Laws.{accepted-exactly, passed-stored, stands-exactly, laws}
-use Rattle.withdrawal.specs.Order.{after, falls, fallsWith}
+use Rattle.withdrawal.specs.Order.{after, falls}
+use Rattle.withdrawal.specs.Computed.{fallsWith}
 
 pub stands-filled : (s : List ℕ) (t i : ℕ) → stands s t i ≡ true → filledAt s i ≡ true
 unfolding stands
@@ -39,16 +42,16 @@ id-of : (s : List ℕ) (i : ℕ) → idAt s i ≡ subjectAt s i .id
 unfolding subjectAt
 id-of s i = refl
 
-stands-now : (s : List ℕ) (t i : ℕ) → standsBy (alsoAt s 64) s t i ≡ stands s t i
+stands-now : (s : List ℕ) (t i : ℕ) → standsBy (alsoAt s noSlot) s t i ≡ stands s t i
 unfolding stands
 stands-now s t i = ap (λ (g : ℕ → Bool). standsBy g s t i) (none-also s)
 
 -- regarding c as withdrawn matters at its id alone, and only adds to what is withdrawn
 also-other : (s : List ℕ) (c y : ℕ) → ¬ (y ≡ idAt s c) → alsoAt s c y ≡ withdrawnIn s y
-unfolding alsoAt withdrawnIn
+unfolding alsoAt
 also-other s c y n = by (find s y) refl
   where
-    by : (o : Option ℕ) → find s y ≡ o → atFound (λ i. eqb i c || withdrawnAt s i) o ≡ atFound (withdrawnAt s) o
+    by : (o : Option ℕ) → find s y ≡ o → (atFound (λ i. eqb i c) o || withdrawnIn s y) ≡ withdrawnIn s y
     by none e = refl
     by (some i) e = rw (ne-eqb i c (λ q. n (sym (find-finds s y i e .2) ∙ ap (idAt s) q)))
 
@@ -57,14 +60,10 @@ or-right true b e = let z : _≡_ {A = ℕ} 0 1 = cc in absurd (omega arith)
 or-right false b e = e
 
 also-more : (s : List ℕ) (c y : ℕ) → alsoAt s c y ≡ false → withdrawnIn s y ≡ false
-unfolding alsoAt withdrawnIn
-also-more s c y = by (find s y)
-  where
-    by : (o : Option ℕ) → atFound (λ i. eqb i c || withdrawnAt s i) o ≡ false → atFound (withdrawnAt s) o ≡ false
-    by none e = e
-    by (some i) e = or-right (eqb i c) (withdrawnAt s i) e
+unfolding alsoAt
+also-more s c y e = or-right (atFound (λ i. eqb i c) (find s y)) (withdrawnIn s y) e
 
-module _ (s : List ℕ) (c : ℕ) (are : Octets s) (size : length s ≡ 13568) (h : c < 64) (filled : filledAt s c ≡ true) where
+module _ (s : List ℕ) (c : ℕ) (are : Octets s) (size : length s ≡ storeLength) (h : c < 64) (filled : filledAt s c ≡ true) where
   subject-kept : (i : ℕ) → i < 64 → subjectAt (after s c) i ≡ subjectAt s i
   unfolding subjectAt
   subject-kept i hi =
@@ -80,7 +79,7 @@ module _ (s : List ℕ) (c : ℕ) (are : Octets s) (size : length s ≡ 13568) (
   issuer-same =
       fun-ext (λ x. ap (subjectOr UNKNOWN (after s c)) (find-kept s c are size h filled (x .issuer)) ∙ or-kept (x .issuer) (find s (x .issuer)) refl)
 
-  found-kept : (x : ℕ) (o : Option ℕ) → find s x ≡ o → atFound (withdrawnAt (after s c)) o ≡ atFound (λ i. eqb i c || withdrawnAt s i) o
+  found-kept : (x : ℕ) (o : Option ℕ) → find s x ≡ o → atFound (withdrawnAt (after s c)) o ≡ (atFound (λ i. eqb i c) o || atFound (withdrawnAt s) o)
   found-kept x none e = refl
   found-kept x (some i) e = withdrawn-kept s c are size h i (find-finds s x i e .0)
 
@@ -97,9 +96,9 @@ module _ (s : List ℕ) (c : ℕ) (are : Octets s) (size : length s ≡ 13568) (
   unfolding stands
   stands-after t i hi =
       ap₂ (λ (f : Bool) (n : ℕ). f && eqb n 0) (filled-kept s c are size h filled i hi)
-      (ap (λ (g : ℕ → Bool). walkNumber g (after s c) t Anywhere 7 (subjectAt (after s c) i)) (fun-ext gone-after)
-      ∙ walk-same (alsoAt s c) t Anywhere 7 (subjectAt (after s c) i)
-      ∙ ap (walkNumber (alsoAt s c) s t Anywhere 7) (subject-kept i hi))
+      (ap (λ (g : ℕ → Bool). walkNumber g (after s c) t Anywhere followers (subjectAt (after s c) i)) (fun-ext gone-after)
+      ∙ walk-same (alsoAt s c) t Anywhere followers (subjectAt (after s c) i)
+      ∙ ap (walkNumber (alsoAt s c) s t Anywhere followers) (subject-kept i hi))
 
   -- how the code asks for it
   pub falls-with : (t i : ℕ) → i < 64 → fallsWith s t c i ≡ falls s (after s c) t i
@@ -112,7 +111,7 @@ module _ (s : List ℕ) (c : ℕ) (are : Octets s) (size : length s ≡ 13568) (
   fewer-stand t i hi e =
       let k = and-split (filledAt s i) _ (sym (stands-after t i hi) ∙ e) in
       and-join (filledAt s i) _ (k .0)
-      (eq-eqb _ 0 (laws .fewer (withdrawnIn s) (alsoAt s c) (also-more s c) s t Anywhere 7 (subjectAt s i) (eqb-true _ 0 (k .1))))
+      (eq-eqb _ 0 (laws .fewer (withdrawnIn s) (alsoAt s c) (also-more s c) s t Anywhere followers (subjectAt s i) (eqb-true _ 0 (k .1))))
 
   -- who stood before and does not after stood through c, which stood too
   pub stood : Distinct s → (t i : ℕ) → i < 64 → stands s t i ≡ true → ¬ (stands (after s c) t i ≡ true) → stands s t c ≡ true
@@ -123,9 +122,9 @@ module _ (s : List ℕ) (c : ℕ) (are : Octets s) (size : length s ≡ 13568) (
 
       passed : Passed (issuerIn s) (λ d. Sound (withdrawnIn s) t Anywhere d × StoredIn s d) (idAt s c) 7
       passed =
-          passed-stored (withdrawnIn s) (alsoAt s c) (idAt s c) (also-other s c) s t Anywhere 7 (subjectAt s i)
+          passed-stored (withdrawnIn s) (alsoAt s c) (idAt s c) (also-other s c) s t Anywhere followers (subjectAt s i)
           (record { slot = i; below = hi; filled = fi; here = refl }) (stands-exactly s t i fi .0 e)
-          (λ k. n (stands-after t i hi ∙ and-join (filledAt s i) _ fi (eq-eqb _ 0 (accepted-exactly (alsoAt s c) s t Anywhere 7 (subjectAt s i) .1 k))))
+          (λ k. n (stands-after t i hi ∙ and-join (filledAt s i) _ fi (eq-eqb _ 0 (accepted-exactly (alsoAt s c) s t Anywhere followers (subjectAt s i) .1 k))))
 
       stored : StoredIn s (passed .certificate)
       stored = chains.chain-own (issuerIn s) (passed .chain) .1

@@ -6,28 +6,22 @@ use mathlib.Core.List.{List}
 use mathlib.Core.Option.{some}
 use Prim.Native.Nat.{ℕ, _<_}
 use lib.Dec.{eqb}
-use borrow.Author.Tests.{eqb-false, ne-eqb}
 use Rattle.order.specs.Steps.{Answer, gives, refused, rows, First, run}
 use Rattle.order.specs.Steps as order
 use Rattle.order.proofs.Steps.{refuses-at}
 use Rattle.geo.proofs.Bools.{or-join}
 use Rattle.bitfields.specs.Field.{number, Octets}
-use Rattle.store.specs.Slots.{GONE, stateAt, withdrawnAt}
+use Rattle.store.specs.Slots.{withdrawnAt}
 use Rattle.store.specs.Search.{find}
 use Rattle.store.proofs.Found.{find-finds, find-only}
 use Rattle.store.proofs.Withdrawn.{withdrawn-kept}
 use Rattle.validity.proofs.Laws as validity
-use Rattle.chain.specs.Stored.{withdrawnIn}
+use Rattle.store.specs.Withdrawn.{withdrawnIn}
 use Rattle.withdrawal.specs.Order.{asking, asked, drawing, withdrawnFrom, withdrawal, refusedList, listedFor, page}
 use Rattle.withdrawal.specs.Laws.{Askable, Laws}
 use Rattle.withdrawal.proofs.Asked.{Held, asked-held, held-below, held-still, asked-at}
 use Rattle.withdrawal.proofs.Fallen.{valid-of}
 use Rattle.withdrawal.proofs.Demand.{demand3}
-
--- what is found is withdrawn if its slot is
-withdrawn-found : (s : List ℕ) (x c : ℕ) → find s x ≡ some c → withdrawnIn s x ≡ withdrawnAt s c
-unfolding withdrawnIn
-withdrawn-found s x c e = rw e
 
 askable : (s id : List ℕ) (c : ℕ) → Held s id c → Askable s id c
 askable s id c h =
@@ -38,14 +32,14 @@ askable s id c h =
       slot = f .0;
       filled = f .1;
       id-of = f .2;
-      not-withdrawn = eqb-false (stateAt s c) GONE (sym (withdrawn-found s (number id) c (h .found)) ∙ h .not-withdrawn);
+      not-withdrawn = h .not-withdrawn;
     }
 
 pub asked-from : (s id : List ℕ) (c : ℕ) → Askable s id c → asked s id ≡ gives c
 asked-from s id c a =
     let found : find s (number id) ≡ some c = ap (find s) (sym (a .id-of)) ∙ find-only s (a .valid .distinct) c (a .slot) (a .filled) in
     sym (asked-at s id (a .valid .size) (a .id-long) (validity.laws .valid-exactly s .1 (a .valid)) c found)
-    ∙ sym (held-still s c (ne-eqb (stateAt s c) GONE (a .not-withdrawn)))
+    ∙ sym (held-still s c (ap (withdrawnIn s) (a .id-of) ∙ a .not-withdrawn))
 
 -- the numbers, by what the tests answer
 from-number : (s : List ℕ) (a : Answer ℕ) → withdrawnFrom s a .0 ≡ order.number a

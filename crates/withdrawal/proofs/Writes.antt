@@ -9,7 +9,9 @@ use lib.ListN.{length, take, drop, set, length-set, take-append-drop}
 use lib.Seq.{take-suc-set, drop-set-lt, drop-drop, append-snoc, length-take-le}
 use lib.Dec.{eqb}
 use borrow.Author.Tests.{eq-eqb, ne-eqb}
-use Rattle.withdrawal.specs.SlotSets.{slotsIn, slotsFrom, bit, bitsFrom, front}
+use Rattle.withdrawal.specs.SlotSets.{slotsFrom}
+use Rattle.octets.specs.Buffers.{withFront}
+use Rattle.withdrawal.specs.Computed.{slotsIn, bit, bitsFrom}
 use Rattle.withdrawal.proofs.SlotSets.{bits-mod, bits-div}
 
 pub record Writing (n : ℕ) (out₀ out : List ℕ) (rest k i : ℕ) : Type 0 where
@@ -51,7 +53,7 @@ module _ (n : ℕ) (out₀ out : List ℕ) (r k i : ℕ) (w : Writing n out₀ o
         whole = ap (λ (m : ℕ). take m (set out k i) ++ rest) (add-one k) ∙ ap (λ (x : List ℕ). x ++ rest) (take-suc-set out k i k<) ∙ append-snoc (take k out) i rest ∙ ap (λ (x : List ℕ). take k out ++ x) (sym e) ∙ w .whole;
       }
 
-pub done : (n : ℕ) (out₀ out : List ℕ) (r k i : ℕ) → Writing n out₀ out r k i → 64 ≤ i → 64 ≤ length out₀ → out ≡ front (slotsIn n 0 64) out₀
+pub done : (n : ℕ) (out₀ out : List ℕ) (r k i : ℕ) → Writing n out₀ out r k i → 64 ≤ i → 64 ≤ length out₀ → out ≡ withFront (slotsIn n 0 64) out₀
 unfolding slotsIn
 done n out₀ out r k i w l room =
     let A : List ℕ = slotsIn n 0 64 in

@@ -7,14 +7,14 @@ use Prim.Native.Nat.{ℕ, _+_, _*_, _<_, _≤_}
 use lib.ListN.{length, getD, take}
 use Rattle.bitfields.specs.Field.{number, field, Octets}
 use Rattle.records.specs.Layout.{STATE, slotBits}
-use Rattle.store.specs.Slots.{storeLength, HELD, GONE, stateAt, filledAt, idAt}
+use Rattle.store.specs.Slots.{slotCount, storeLength, HELD, GONE, stateAt, filledAt, idAt}
 use Rattle.validity.specs.Laws.{Valid}
 use Rattle.chain.specs.Stored.{stands}
 use Rattle.withdrawal.specs.Order.{Listing, page, withdrawal}
 
 -- slot i holds a certificate
 pub record Stored (s : List ℕ) (i : ℕ) : Type 0 where
-  pub slot : i < 64
+  pub slot : i < slotCount
   pub filled : filledAt s i ≡ true
 
 -- the certificate in slot i stands at the second t
@@ -64,7 +64,7 @@ pub record Asked (s : List ℕ) (c : ℕ) (id l : List ℕ) : Type 0 where
   -- the id in the call is the id of the slot whose state changes
   pub id-long : length id ≡ 8
   pub id-of : idAt s c ≡ number id
-  pub room : 64 ≤ length l
+  pub room : slotCount ≤ length l
 
 abbrev pub Demand : Type 0
 Demand = (s : List ℕ) (c t : ℕ) (id l : List ℕ) → Asked s c id l → Demand3 s c t l (page s id t l) (withdrawal s id)

@@ -1,13 +1,14 @@
 -- What is proved of list and withdraw (proofs/Laws.antt), besides demand 3 (specs/Demand).
 use mathlib.Core.Path.{_≡_}
 use mathlib.Core.Logic.{_↔_}
-use mathlib.Core.Bool.{true}
+use mathlib.Core.Bool.{true, false}
 use mathlib.Core.List.{List}
 use Prim.Native.Nat.{ℕ, _<_}
 use lib.ListN.{length}
 use Rattle.order.specs.Steps.{gives, rows, First}
 use Rattle.bitfields.specs.Field.{number, Octets}
-use Rattle.store.specs.Slots.{GONE, stateAt, filledAt, withdrawnAt, idAt}
+use Rattle.store.specs.Slots.{slotCount, filledAt, withdrawnAt, idAt}
+use Rattle.store.specs.Withdrawn.{withdrawnIn}
 use Rattle.validity.specs.Laws.{Valid}
 use Rattle.withdrawal.specs.Order.{asking, asked, drawing, withdrawal, refusedList, page}
 use Rattle.withdrawal.specs.Demand.{Demand}
@@ -16,10 +17,10 @@ use Rattle.withdrawal.specs.Demand.{Demand}
 pub record Askable (s id : List ℕ) (c : ℕ) : Type 0 where
   pub valid : Valid s
   pub id-long : length id ≡ 8
-  pub slot : c < 64
+  pub slot : c < slotCount
   pub filled : filledAt s c ≡ true
   pub id-of : idAt s c ≡ number id
-  pub not-withdrawn : ¬ (stateAt s c ≡ GONE)
+  pub not-withdrawn : withdrawnIn s (number id) ≡ false
 
 pub record Laws : Type 0 where
   -- the shared tests give a slot exactly if it holds a certificate that may be asked for
@@ -31,7 +32,7 @@ pub record Laws : Type 0 where
   pub withdraw-keeps : (s id : List ℕ) → ¬ (withdrawal s id .0 ≡ 0) → withdrawal s id .1 ≡ s
   pub list-keeps : (s id : List ℕ) (t : ℕ) (l : List ℕ) → ¬ (page s id t l .number ≡ 0) → page s id t l ≡ refusedList (page s id t l .number) l s
   -- a withdrawn slot stays so for good, accepted or not; install and admit fill empty slots alone (admission, `filled-kept`)
-  pub stays-withdrawn : (s id : List ℕ) (i : ℕ) → Octets s → i < 64 → withdrawnAt s i ≡ true → withdrawnAt (withdrawal s id .1) i ≡ true
+  pub stays-withdrawn : (s id : List ℕ) (i : ℕ) → Octets s → i < slotCount → withdrawnAt s i ≡ true → withdrawnAt (withdrawal s id .1) i ≡ true
   -- list never changes the store, accepted or not
   pub list-reads : (s id : List ℕ) (t : ℕ) (l : List ℕ) → page s id t l .store ≡ s
   -- demand 3

@@ -1,4 +1,5 @@
 pub mod SlotSets
 pub mod Order
+pub mod Computed
 pub mod Demand
 pub mod Laws

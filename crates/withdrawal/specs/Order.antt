@@ -4,18 +4,18 @@ use mathlib.Core.List.{List}
 use Prim.Native.Nat.{ℕ}
 use lib.ListN.{length}
 use lib.Dec.{eqb, leb}
-use Rattle.order.specs.Steps.{Answer, gives, refused, pick, Steps, done, need, take, run}
+use Rattle.order.specs.Steps.{Answer, gives, refused, Steps, done, need, take, run}
+use Rattle.octets.specs.Buffers.{withFront}
 use Rattle.octets.specs.Refusals.{ACCEPTED, BAD-CALL, BAD-STORE, UNKNOWN, WITHDRAWN}
 use Rattle.bitfields.specs.Field.{number}
-use Rattle.store.specs.Slots.{storeLength, GONE, withdrawnAt}
+use Rattle.store.specs.Slots.{slotCount, storeLength, GONE}
 use Rattle.store.specs.Search.{find}
 use Rattle.store.specs.Laws.{withState}
 use Rattle.validity.specs.Valid.{validStore}
-use Rattle.chain.specs.Stored.{slotOr, withdrawnIn, alsoAt, standsBy, stands}
-use Rattle.withdrawal.specs.SlotSets.{slotsFrom, front}
+use Rattle.chain.specs.Stored.{slotOr, stands}
+use Rattle.store.specs.Withdrawn.{withdrawnIn}
+use Rattle.withdrawal.specs.SlotSets.{slotsFrom}
 use Rattle.withdrawal.specs.declared.operations.Listed.{Listed}
-use Rattle.withdrawal.specs.declared.asking.Asked.{Asked}
-use Rattle.withdrawal.specs.declared.asking.Asked.the-variants.{Held, Refused}
 
 -- "1 (store length, id not 8 octets, ..), 2, 7, 8": what list and withdraw share; it gives the slot of the certificate
 abbrev pub asking : List ℕ → List ℕ → Steps ℕ
@@ -31,9 +31,9 @@ asking store id =
 unfoldable pub asked : List ℕ → List ℕ → Answer ℕ
 asked store id = run (asking store id)
 
--- ".., list under 64 octets": list asks that first
+-- ".., list under 64 octets", one for each slot: list asks that first
 abbrev pub drawing : List ℕ → List ℕ → List ℕ → Steps ℕ
-drawing store id list = need BAD-CALL (leb 64 (length list)) (asking store id)
+drawing store id list = need BAD-CALL (leb slotCount (length list)) (asking store id)
 
 -- the store after the withdrawal of slot c: two bits, its state
 abbrev pub after : List ℕ → ℕ → List ℕ
@@ -45,7 +45,7 @@ falls before after t i = stands before t i && not (stands after t i)
 
 -- the slots of those certificates
 unfoldable pub affected : List ℕ → List ℕ → ℕ → List ℕ
-affected before after t = slotsFrom (falls before after t) 0 64
+affected before after t = slotsFrom (falls before after t) 0 slotCount
 
 -- withdraw: the number, and the store that it leaves
 abbrev pub withdrawnFrom : List ℕ → Answer ℕ → ℕ × List ℕ
@@ -71,7 +71,7 @@ refusedList k l s = record { number = k; n = 0; list = l; store = s }
 
 -- the slots are written to the front of the list
 abbrev pub written : List ℕ → List ℕ → List ℕ → Listing
-written slots l s = record { number = ACCEPTED; n = length slots; list = front slots l; store = s }
+written slots l s = record { number = ACCEPTED; n = length slots; list = withFront slots l; store = s }
 
 -- the page names what falls by the withdrawal from the same store
 unfoldable pub listedFor : List ℕ → ℕ → List ℕ → Answer ℕ → Listing
@@ -81,15 +81,3 @@ listedFor store t l (refused k) = refusedList k l store
 -- what list answers: document 01 calls it the page's list
 unfoldable pub page : List ℕ → List ℕ → ℕ → List ℕ → Listing
 page store id t l = listedFor store t l (run (drawing store id l))
-
--- what the code answers on the way, by names that do not unfold of themselves
-abbrev pub askedOf : Asked → Answer ℕ
-askedOf (Held c) = gives c
-askedOf (Refused k) = refused k
-
-unfoldable pub heldAt : List ℕ → ℕ → Answer ℕ
-heldAt store slot = pick (withdrawnAt store slot) (refused WITHDRAWN) (gives slot)
-
--- what falls, read off the old store alone
-unfoldable pub fallsWith : List ℕ → ℕ → ℕ → ℕ → Bool
-fallsWith store t c i = standsBy (alsoAt store 64) store t i && not (standsBy (alsoAt store c) store t i)

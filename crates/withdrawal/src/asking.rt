@@ -1,8 +1,11 @@
 ghost use mathlib.Core.Path.{_≡_};
+ghost use mathlib.Core.Option.{some};
 ghost use Prim.Native.Nat.{_<_};
 ghost use lib.ListN.{length};
-ghost use Rattle.withdrawal.specs.Order.{askedOf, heldAt, asked};
-ghost use Rattle.store.specs.Slots.{slotCount, storeLength};
+ghost use Rattle.withdrawal.specs.Order.{asked};
+ghost use Rattle.withdrawal.specs.Computed.{askedOf, heldAt};
+ghost use Rattle.store.specs.Slots.{slotCount, storeLength, idAt};
+ghost use Rattle.store.specs.Search.{find};
 use bitfields::reading::window;
 use octets::refusals::BAD_CALL;
 use octets::refusals::BAD_STORE;
@@ -11,7 +14,7 @@ use octets::refusals::WITHDRAWN;
 use store::search::Found;
 use store::search::find_id;
 use store::sizes::STORE_LENGTH;
-use store::slots::withdrawn;
+use store::withdrawals::withdrawn;
 use validity::valid;
 
 // The slot of the certificate that is asked for, or the number of the refusal.
@@ -20,9 +23,9 @@ pub enum Asked {
     Refused(u8),
 }
 
-// A slot that was found, unless it is withdrawn.
+// A slot that its id finds, unless it is withdrawn.
 fn held(store: &[u8], slot: usize) -> Asked
-    requires { ⌜ (slot < slotCount) × (length (now store) ≡ storeLength) ⌝ }
+    requires { ⌜ (slot < slotCount) × (length (now store) ≡ storeLength) × (find (now store) (idAt (now store) slot) ≡ some slot) ⌝ }
     ensures { λ r. ⌜ askedOf r ≡ heldAt (now (store .entry)) slot ⌝ }
 {
     if withdrawn(store, slot) {

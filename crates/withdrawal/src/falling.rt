@@ -2,27 +2,31 @@ ghost use mathlib.Core.Path.{_≡_};
 ghost use mathlib.Core.Bool.{true};
 ghost use Prim.Native.Nat.{_≤_, _<_};
 ghost use lib.ListN.{length};
+ghost use Rattle.store.specs.Slots.{slotCount};
 ghost use Rattle.validity.specs.Valid.{validStore};
-ghost use Rattle.withdrawal.specs.SlotSets.{bit, bitsFrom, slotsIn, front};
-ghost use Rattle.withdrawal.specs.Order.{fallsWith};
+ghost use Rattle.octets.specs.Buffers.{withFront};
+ghost use Rattle.withdrawal.specs.Computed.{bit, bitsFrom, slotsIn, fallsWith};
 use chain::subjects::Place;
+use chain::walking::FOLLOWERS;
+use chain::walking::NO_SLOT;
 use chain::walking::walk_at;
 use octets::refusals::ACCEPTED;
+use store::sizes::SLOTS;
 use store::slots::filled;
 
 // 1 if the certificate in a slot stands at the second before slot c is withdrawn and not after, else 0. Most certificates stand
 // after too, so that walk comes first.
 fn falls_at(store: &[u8], slot: usize, second: u64, c: usize) -> u64
-    requires { ⌜ (slot < 64) × (validStore (now store) ≡ true) ⌝ }
+    requires { ⌜ (slot < slotCount) × (validStore (now store) ≡ true) ⌝ }
     ensures { λ r. ⌜ r ≡ bit (fallsWith (now (store .entry)) second c slot) ⌝ }
 {
     if !filled(store, slot) {
         return 0;
     }
-    if walk_at(store, slot, second, Place::Anywhere, 7, c) == ACCEPTED {
+    if walk_at(store, slot, second, Place::Anywhere, FOLLOWERS, c) == ACCEPTED {
         return 0;
     }
-    if walk_at(store, slot, second, Place::Anywhere, 7, 64) != ACCEPTED {
+    if walk_at(store, slot, second, Place::Anywhere, FOLLOWERS, NO_SLOT) != ACCEPTED {
         return 0;
     }
     1
@@ -31,10 +35,10 @@ fn falls_at(store: &[u8], slot: usize, second: u64, c: usize) -> u64
 // The slots whose certificates fall by the withdrawal of slot c, as a set: bit i is slot i.
 pub fn slot_set(store: &[u8], second: u64, c: usize) -> u64
     requires { ⌜ validStore (now store) ≡ true ⌝ }
-    ensures { λ r. ⌜ r ≡ bitsFrom (fallsWith (now (store .entry)) second c) 0 64 ⌝ }
+    ensures { λ r. ⌜ r ≡ bitsFrom (fallsWith (now (store .entry)) second c) 0 slotCount ⌝ }
 {
     let mut set: u64 = 0;
-    let mut i: usize = 64;
+    let mut i = SLOTS;
     while 0 < i {
         i -= 1;
         set = set * 2 + falls_at(store, i, second, c);
@@ -44,13 +48,13 @@ pub fn slot_set(store: &[u8], second: u64, c: usize) -> u64
 
 // The slots of a set go to the front of a lent list, in slot order.
 pub fn write_slots(set: u64, lent: &mut [u8])
-    requires { ⌜ 64 ≤ length (now lent) ⌝ }
-    ensures { λ _. ⌜ now (lent .exit) ≡ front (slotsIn set 0 64) (now (lent .entry)) ⌝ }
+    requires { ⌜ slotCount ≤ length (now lent) ⌝ }
+    ensures { λ _. ⌜ now (lent .exit) ≡ withFront (slotsIn set 0 slotCount) (now (lent .entry)) ⌝ }
 {
     let mut rest = set;
     let mut k: usize = 0;
     let mut i: usize = 0;
-    while i < 64 {
+    while i < SLOTS {
         if rest % 2 == 1 {
             lent[k] = i as u8;
             k += 1;

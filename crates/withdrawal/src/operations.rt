@@ -4,19 +4,18 @@ ghost use mathlib.Core.List.{List};
 ghost use Prim.Native.Nat.{ℕ, _≤_, _<_};
 ghost use lib.ListN.{length};
 ghost use Rattle.order.specs.Steps.{gives};
-ghost use Rattle.store.specs.Slots.{slotCount, storeLength, filledAt};
+ghost use Rattle.store.specs.Slots.{slotCount, filledAt};
 ghost use Rattle.validity.specs.Valid.{validStore};
-ghost use Rattle.withdrawal.specs.Order.{after, listing, listedFor, page, withdrawal};
+ghost use Rattle.withdrawal.specs.Order.{listing, listedFor, page, withdrawal};
 ghost use Rattle.withdrawal.specs.Demand.{BothCalls};
 use crate::asking::Asked;
 use crate::asking::ask;
 use crate::falling::slot_set;
 use crate::falling::write_slots;
-use bitfields::writing::put;
 use octets::refusals::ACCEPTED;
 use octets::refusals::BAD_CALL;
-use records::layout::SLOT_BITS;
-use records::layout::STATE_AT;
+use store::sizes::SLOTS;
+use store::withdrawals::mark_withdrawn;
 
 // What list answers: the number, and how many slots the list has.
 pub struct Listed {
@@ -32,7 +31,7 @@ pub struct Both {
 
 // The page's list for the certificate held in slot c.
 fn draw(store: &[u8], c: usize, second: u64, lent: &mut [u8]) -> Listed
-    requires { ⌜ (c < 64) × (validStore (now store) ≡ true) × (filledAt (now store) c ≡ true) × (64 ≤ length (now lent)) ⌝ }
+    requires { ⌜ (c < slotCount) × (validStore (now store) ≡ true) × (filledAt (now store) c ≡ true) × (slotCount ≤ length (now lent)) ⌝ }
     ensures { λ r. ⌜ listing r (now (lent .exit)) (now (store .exit)) ≡ listedFor (now (store .entry)) second (now (lent .entry)) (gives c) ⌝ }
 {
     let set = slot_set(store, second, c);
@@ -47,7 +46,7 @@ fn draw(store: &[u8], c: usize, second: u64, lent: &mut [u8]) -> Listed
 pub fn list(store: &[u8], id: &[u8], second: u32, lent: &mut [u8]) -> Listed
     ensures { λ r. ⌜ listing r (now (lent .exit)) (now (store .exit)) ≡ page (now (store .entry)) (now (id .entry)) second (now (lent .entry)) ⌝ }
 {
-    if lent.len() < 64 {
+    if lent.len() < SLOTS {
         return Listed {
             number: BAD_CALL,
             n: 0,
@@ -59,14 +58,6 @@ pub fn list(store: &[u8], id: &[u8], second: u32, lent: &mut [u8]) -> Listed
     }
 }
 
-// The two state bits of a slot become 2, withdrawn.
-fn mark(store: &mut [u8], c: usize)
-    requires { ⌜ (c < slotCount) × (length (now store) ≡ storeLength) ⌝ }
-    ensures { λ _. ⌜ now (store .exit) ≡ after (now (store .entry)) c ⌝ }
-{
-    put(store, c * SLOT_BITS + STATE_AT, 2, 2);
-}
-
 // The withdrawal by id.
 pub fn withdraw(store: &mut [u8], id: &[u8]) -> u8
     ensures { λ r. ⌜ _≡_ {A = ℕ × List ℕ} (r, now (store .exit)) (withdrawal (now (store .entry)) (now (id .entry))) ⌝ }
@@ -74,7 +65,7 @@ pub fn withdraw(store: &mut [u8], id: &[u8]) -> u8
     match ask(store, id) {
         Asked::Refused(number) => number,
         Asked::Held(c) => {
-            mark(store, c);
+            mark_withdrawn(store, c);
             ACCEPTED
         }
     }

@@ -44,14 +44,16 @@ use Rattle.records.specs.declared.Record.{Record}
 use Rattle.store.specs.Slots.{slotOf, stateAt, withdrawnAt, idAt, issuerAt}
 use Rattle.store.specs.Search.{lowestFrom, find}
 use Rattle.chain.specs.Walk.{walk}
-use Rattle.chain.specs.Stored.{answered, subjectAt, issuerIn, withdrawnIn}
+use Rattle.chain.specs.Stored.{answered, subjectAt, issuerIn}
+use Rattle.store.specs.Withdrawn.{withdrawnIn}
 use Rattle.entries.specs.Stored.{recordFrom}
 use Rattle.writing.specs.Written.{bigEndianOctets, intxOctets}
 use Rattle.layout.specs.Layout.{written}
 use Rattle.layout.specs.Fields.{fieldsAt}
 use Rattle.signing.specs.Times.{allowedAge, inTime}
 use Rattle.signing.specs.Places.{positionOf}
-use Rattle.signing.specs.Copies.{sameOctets, copySteps, copying}
+use Rattle.signing.specs.Copies.{copySteps, copying}
+use Rattle.store.specs.Copies.{sameOctets}
 use Rattle.signing.specs.Signers.{subjectOf, allowed}
 use Rattle.verification.specs.Order.{ownPosition, Passed, passed, judging, question, decision, undecided, preparation, certificateQuestion}
 use Rattle.verification.specs.declared.judging.Situation.{Situation}

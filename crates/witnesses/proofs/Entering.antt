@@ -29,7 +29,8 @@ use Rattle.validity.specs.Good.{rectangleGood, goodRecord, goodSlot}
 use Rattle.validity.specs.Valid.{slotGood, differs, fresh, validStore}
 use Rattle.entries.specs.Readable.{accepted}
 use Rattle.entries.specs.Stored.{recordFrom}
-use Rattle.admission.specs.Order.{wanted, absent, belowNumber, issuerNumber, issuerRefusal, testNumber, placed, entered, installed, admitted}
+use Rattle.admission.specs.Order.{wanted, absent, entered, installed, admitted}
+use Rattle.admission.specs.Computed.{belowNumber, issuerNumber, issuerRefusal, testNumber, placed}
 use Rattle.admission.proofs.Tests.{issuer-unknown, issuer-found, anchor-passes, issuer-asked, test-issuer, test-signature, test-passes}
 use Rattle.admission.proofs.Entered.{placed-stops, placed-full, placed-slot, entered-unread, entered-kind, entered-placed}
 use Rattle.witnesses.specs.Inputs.{eight, anchor, anchor-id, pass, pass-id, empty, marked, chains, taken, gone-issuer, ticket-issuer, other-issuer, short-issuer, bay-issuer}

@@ -30,7 +30,8 @@ use Rattle.validity.specs.Laws.{Valid}
 use Rattle.validity.proofs.Laws.{laws}
 use Rattle.entries.proofs.Rules.{Rules}
 use Rattle.layout.specs.Fields.{fieldsAt}
-use Rattle.admission.specs.Order.{absent, belowNumber, testNumber, installed, admitted}
+use Rattle.admission.specs.Order.{absent, installed, admitted}
+use Rattle.admission.specs.Computed.{belowNumber, testNumber}
 use Rattle.admission.proofs.Good.{image-good}
 use Rattle.admission.proofs.Tests.{below-held, anchor-passes, test-passes}
 use Rattle.witnesses.specs.Inputs.{eight, anchor, anchor-id, pass, pass-id, images, authority, authorities, full}

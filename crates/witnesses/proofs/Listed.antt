@@ -22,9 +22,11 @@ use Rattle.validity.specs.Each.{eachBelow}
 use Rattle.validity.specs.Good.{goodSlot}
 use Rattle.validity.specs.Valid.{slotGood, validStore}
 use Rattle.chain.specs.Walk.{walk}
-use Rattle.chain.specs.Stored.{subjectAt, issuerIn, alsoAt, walkNumber}
+use Rattle.chain.specs.Stored.{subjectAt, issuerIn, walkNumber}
+use Rattle.chain.specs.Computed.{alsoAt}
 use Rattle.withdrawal.specs.SlotSets.{slotsFrom}
-use Rattle.withdrawal.specs.Order.{asked, heldAt, fallsWith, listedFor, after, page, withdrawal, refusedList}
+use Rattle.withdrawal.specs.Order.{asked, listedFor, after, page, withdrawal, refusedList}
+use Rattle.withdrawal.specs.Computed.{heldAt, fallsWith}
 use Rattle.withdrawal.specs.Order as order
 use Rattle.withdrawal.proofs.Asked.{asked-unknown, asked-at, page-asked, page-refused, withdrawal-asked}
 use Rattle.withdrawal.proofs.Fallen.{slots-affected}

@@ -18,7 +18,8 @@ use Rattle.validity.specs.Each.{eachBelow}
 use Rattle.validity.specs.Good.{rectangleGood, goodRecord, goodSlot}
 use Rattle.validity.specs.Valid.{slotGood, differs, fresh, validStore}
 use Rattle.chain.specs.Walk.{walk}
-use Rattle.chain.specs.Stored.{subjectAt, issuerIn, withdrawnIn}
+use Rattle.chain.specs.Stored.{subjectAt, issuerIn}
+use Rattle.store.specs.Withdrawn.{withdrawnIn}
 use Rattle.attributes.specs.Points.{pointAt}
 use Rattle.certificate.specs.Signatures.{signatureAt}
 use Rattle.headers.specs.Times.{generationAt, deviationAt, expirationAt}

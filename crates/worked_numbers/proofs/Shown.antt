@@ -19,10 +19,12 @@ use Rattle.store.specs.Search.{lowestFrom, find}
 use Rattle.validity.specs.Each.{eachBelow}
 use Rattle.validity.specs.Good.{rectangleGood, goodRecord, goodSlot}
 use Rattle.validity.specs.Valid.{slotGood, differs, fresh, validStore}
-use Rattle.chain.specs.Stored.{subjectAt, issuerIn, alsoAt, walkNumber}
+use Rattle.chain.specs.Stored.{subjectAt, issuerIn, walkNumber}
+use Rattle.chain.specs.Computed.{alsoAt}
 use Rattle.chain.specs.Walk.{walk}
 use Rattle.withdrawal.specs.SlotSets.{slotsFrom}
-use Rattle.withdrawal.specs.Order.{asked, fallsWith, listedFor, page}
+use Rattle.withdrawal.specs.Order.{asked, listedFor, page}
+use Rattle.withdrawal.specs.Computed.{fallsWith}
 use Rattle.withdrawal.specs.Order as order
 use Rattle.withdrawal.proofs.Asked.{asked-at, held-still, page-asked}
 use Rattle.withdrawal.proofs.Fallen.{slots-affected}

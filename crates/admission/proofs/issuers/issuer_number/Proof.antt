@@ -1,7 +1,7 @@
 -- Assumes nothing.
 use mathlib.Core.Path.{sym, ap, _∙_}
 use Rattle.store.specs.Search.{foundOf}
-use Rattle.store.proofs.Found.{find-finds}
+use Rattle.store.proofs.Found.{find-finds, found-again}
 use Rattle.admission.proofs.Tests.{issuer-unknown, issuer-found}
 use borrow.Author.Needs.{needs}
 use Rattle.admission.proofs.issuers.issuer_number.Statement.{statement}
@@ -17,7 +17,9 @@ enum-known-slot : tie.Need-enum-known-slot
 enum-known-slot c = search needs
 
 below-requires : tie.Need-below-requires
-below-requires c κs = (find-finds _ _ _ (sym (c .before .before .before .find-id .ensures) ∙ ap foundOf (c .before .slot .given .1)) .0, c .before .before .before .before .before .pre)
+below-requires c κs =
+    let e = sym (c .before .before .before .find-id .ensures) ∙ ap foundOf (c .before .slot .given .1) in
+    (find-finds _ _ _ e .0, c .before .before .before .before .before .pre, found-again _ _ _ e)
 
 returns : tie.Need-returns
 returns c = issuer-unknown _ _ _ (sym (c .before .before .find-id .ensures) ∙ ap foundOf (c .enum-told .given .1))

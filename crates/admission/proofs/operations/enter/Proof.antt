@@ -13,7 +13,7 @@ use Rattle.bitfields.specs.Field.{Octets}
 use Rattle.records.specs.Ranges.{InRange}
 use Rattle.records.specs.declared.Record.{Record}
 use Rattle.entries.specs.Readable.{accepted}
-use Rattle.admission.specs.Order.{placed}
+use Rattle.admission.specs.Computed.{placed}
 use Rattle.geo.proofs.Bools.{of-not}
 use Rattle.entries.proofs.Facts.{facts}
 use Rattle.entries.proofs.Standing.{outlined-standing}

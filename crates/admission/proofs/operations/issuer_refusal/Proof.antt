@@ -1,7 +1,7 @@
 -- Assumes nothing.
 use Prim.Native.Nat.{ℕ}
 use mathlib.Core.Path.{ap, _∙_}
-use Rattle.admission.specs.Order.{issuerNumber}
+use Rattle.admission.specs.Computed.{issuerNumber}
 use Rattle.admission.proofs.Tests.{anchor-passes, issuer-asked}
 use borrow.Author.Needs.{needs}
 use Rattle.admission.proofs.operations.issuer_refusal.Statement.{statement}

@@ -19,7 +19,7 @@ use Rattle.octets.proofs.Kept.{kept-got, kept-refused}
 use Rattle.validity.specs.Valid.{validStore}
 use Rattle.signing.specs.Places.{inRange}
 use Rattle.signing.specs.Times.{inTime}
-use Rattle.signing.specs.Signers.{signerOf}
+use Rattle.signing.specs.Computed.{signerOf}
 use Rattle.verification.specs.Order.{ownPosition, judgedRefused}
 use Rattle.signing.specs.declared.signers.SignerJudged.{SignerJudged}
 use Rattle.verification.proofs.Judged.{judged-length, judged-place, judged-age, judged-bad, judged-unread, judged-late, judged-stops, judged-passes}

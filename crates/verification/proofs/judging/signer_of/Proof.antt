@@ -9,7 +9,7 @@ use Rattle.headers.specs.declared.fields.Fields.{Fields}
 use Rattle.certificate.specs.declared.certificates.Certificate.{Certificate}
 use Rattle.message.specs.declared.messages.MessageParts.{MessageParts}
 use Rattle.entries.proofs.Standing.{stands-in}
-use Rattle.signing.specs.Signers.{namedSigner, carriedSigner}
+use Rattle.signing.specs.Computed.{namedSigner, carriedSigner}
 use Rattle.signing.proofs.Signed.{signer-carried, signer-named}
 use Rattle.verification.proofs.Reading.{carried-standing, digest-in}
 use Rattle.verification.proofs.judging.signer_of.Statement.{statement}

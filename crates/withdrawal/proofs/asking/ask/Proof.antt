@@ -2,7 +2,7 @@
 use Rattle.geo.proofs.Bools.{of-not}
 use mathlib.Core.Path.{sym, ap, _∙_}
 use Rattle.store.specs.Search.{foundOf, find}
-use Rattle.store.proofs.Found.{find-finds}
+use Rattle.store.proofs.Found.{find-finds, found-again}
 use Rattle.withdrawal.proofs.Asked.{id-number, asked-short, asked-id, asked-bad, asked-unknown, asked-at}
 use borrow.Author.Needs.{needs}
 use Rattle.withdrawal.proofs.asking.ask.Statement.{statement}
@@ -33,7 +33,9 @@ enum-known-slot : tie.Need-enum-known-slot
 enum-known-slot c = search needs
 
 held-requires : tie.Need-held-requires
-held-requires c κs = (find-finds _ _ _ (sym (c .before .before .before .find-id .ensures) ∙ ap foundOf (c .before .slot .given .1)) .0, c .before .before .before .before .before .before .before .before .if1 .left)
+held-requires c κs =
+    let e = sym (c .before .before .before .find-id .ensures) ∙ ap foundOf (c .before .slot .given .1) in
+    (find-finds _ _ _ e .0, c .before .before .before .before .before .before .before .before .if1 .left, found-again _ _ _ e)
 
 returns-4 : tie.Need-returns-4
 returns-4 c = asked-unknown _ _ (c .before .before .before .before .before .before .before .if1 .left) (c .before .before .before .before .before .before .if2 .left) (sym (c .before .before .before .before .before .valid .ensures) ∙ of-not _ (c .before .before .before .before .if3 .left)) (ap (find (c .before .before .before .before .before .before .before .before .before .before .args .store .now)) (sym (c .before .before .before .window .ensures ∙ id-number _ (c .before .before .before .before .before .before .if2 .left))) ∙ sym (c .before .before .find-id .ensures) ∙ ap foundOf (c .enum-told .given .1))

@@ -2,8 +2,7 @@
 use mathlib.Core.Path.{_≡_, refl, ap, _∙_}
 use Prim.Native.Nat.{ℕ, _+_, _*_, _^_, _-_, _≤_, _<_}
 use native.Mathlib.Omega.{arith}
-use Rattle.withdrawal.specs.SlotSets.{bitsFrom}
-use Rattle.withdrawal.specs.Order.{fallsWith}
+use Rattle.withdrawal.specs.Computed.{bitsFrom, fallsWith}
 use Rattle.withdrawal.proofs.SlotSets.{bits-top, bits-down, bits-zero, bit-small}
 use Rattle.withdrawal.proofs.falling.slot_set.Statement.{statement}
 use Rattle.withdrawal.proofs.falling.slot_set.Tie as tie

@@ -1,7 +1,7 @@
 use mathlib.Core.Path.{sym, ap, _∙_}
 use native.Mathlib.Omega.{arith}
 use Rattle.store.proofs.Found.{find-finds}
-use Rattle.withdrawal.specs.Order.{askedOf}
+use Rattle.withdrawal.specs.Computed.{askedOf}
 use Rattle.withdrawal.proofs.Asked.{asked-held, page-short, page-asked, page-refused}
 use borrow.Author.Needs.{needs}
 use Rattle.withdrawal.proofs.operations.list.Statement.{statement}

@@ -1,7 +1,7 @@
 use mathlib.Core.Path.{sym, ap, _∙_}
 use mathlib.Core.List.{List}
 use Prim.Native.Nat.{ℕ}
-use Rattle.withdrawal.specs.Order.{askedOf}
+use Rattle.withdrawal.specs.Computed.{askedOf}
 use Rattle.withdrawal.proofs.Asked.{asked-held, held-below, withdrawal-asked}
 use borrow.Author.Needs.{needs}
 use Rattle.withdrawal.proofs.operations.withdraw.Statement.{statement}
@@ -19,8 +19,8 @@ enum-known-number c = search needs
 enum-known-c : tie.Need-enum-known-c
 enum-known-c c = search needs
 
-mark-requires : tie.Need-mark-requires
-mark-requires c κs = let h = asked-held _ _ _ (sym (c .before .before .before .before .ask .ensures) ∙ ap askedOf (c .before .before .c .given .1)) in (held-below _ _ _ h, h .long)
+mark-withdrawn-requires : tie.Need-mark-withdrawn-requires
+mark-withdrawn-requires c κs = let h = asked-held _ _ _ (sym (c .before .before .before .before .ask .ensures) ∙ ap askedOf (c .before .before .c .given .1)) in (held-below _ _ _ h, h .long)
 
 same-length : tie.Need-same-length
 same-length c = search needs
@@ -32,7 +32,7 @@ same-length-2 : tie.Need-same-length-2
 same-length-2 c = search needs
 
 returns-2 : tie.Need-returns-2
-returns-2 c = ap (λ (l : List ℕ). pair 0 l) (c .before .before .mark .ensures) ∙ withdrawal-asked _ _ _ (sym (c .before .before .before .before .before .before .before .ask .ensures) ∙ ap askedOf (c .before .before .before .before .before .c .given .1))
+returns-2 c = ap (λ (l : List ℕ). pair 0 l) (c .before .before .mark-withdrawn .ensures) ∙ withdrawal-asked _ _ _ (sym (c .before .before .before .before .before .before .before .ask .ensures) ∙ ap askedOf (c .before .before .before .before .before .c .given .1))
 
 pub withdraw-spec : {M : Type 1} → statement M
 withdraw-spec =
@@ -41,7 +41,7 @@ withdraw-spec =
     ask-requires
     enum-known-number
     enum-known-c
-    mark-requires
+    mark-withdrawn-requires
     same-length
     returns
     same-length-2
