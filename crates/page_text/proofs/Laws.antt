@@ -4,6 +4,7 @@ use mathlib.Core.List.{List, _++_}
 use Prim.Native.Nat.{ℕ, _<_}
 use lib.ListN.{length, getD, replicate}
 use Rattle.octets.specs.Refusals.{ACCEPTED}
+use Rattle.store.specs.Slots.{slotCount}
 use Rattle.withdrawal.specs.Demand.{named}
 use Rattle.page_text.specs.Lines.{linesOf, headOf, countOf, refusedOf}
 use Rattle.page_text.specs.Page.{inputLength, storeIn, idIn, secondIn, pageText}
@@ -13,7 +14,7 @@ use Rattle.page_text.proofs.Pages.{Slots, page-slots, named-long, named
 
 module _ (input : List ℕ) where
   slots : Slots (answerTo input)
-  slots = page-slots (storeIn input) (idIn input) (secondIn input) (replicate 64 0)
+  slots = page-slots (storeIn input) (idIn input) (secondIn input) (replicate slotCount 0)
 
   refusal : length input ≡ inputLength → ¬ (answerTo input .number ≡ ACCEPTED) → pageText input ≡ refusedOf (answerTo input .number)
   refusal e n = that-length input e ∙ printed-refusal (storeIn input) (idIn input) (secondIn input) refl n
@@ -25,7 +26,7 @@ module _ (input : List ℕ) where
   counted : lineCount (linesOf (storeIn input) (named (answerTo input))) ≡ answerTo input .n
   counted = all-lines (storeIn input) (named (answerTo input)) ∙ named-long (answerTo input) slots
 
-  in-store : (i : ℕ) → i < answerTo input .n → getD (named (answerTo input)) i 0 < 64
+  in-store : (i : ℕ) → i < answerTo input .n → getD (named (answerTo input)) i 0 < slotCount
   in-store i h = named-below (answerTo input) slots i (rw (named-long (answerTo input) slots) h)
 
 pub laws : Laws

@@ -8,6 +8,7 @@ use lib.Dec.{eqb, ltb}
 use lib.ListN.{length, take}
 use borrow.Author.Tests.{ne-eqb}
 use Rattle.octets.specs.Reading.{pick}
+use Rattle.octets.specs.Kinds.{AUTHORITY, ROOT}
 use Rattle.text.specs.Text.{hexDigit, hexOf, digitsOf, decimalOf}
 use Rattle.records.specs.declared.Name.{Name}
 use Rattle.records.specs.declared.Record.{Record}
@@ -62,7 +63,7 @@ in-picked false x y e f = f
 
 in-kind : (kind : ℕ) → lineCount (kindWord kind) ≡ 0
 unfolding kindWord lineCount
-in-kind kind = in-picked (eqb kind 4) rootWord _ refl (in-picked (eqb kind 2) authorityWord ticketWord refl refl)
+in-kind kind = in-picked (eqb kind ROOT) rootWord _ refl (in-picked (eqb kind AUTHORITY) authorityWord ticketWord refl refl)
 
 in-name : (name : Name) → lineCount (nameOf name) ≡ 0
 unfolding nameOf

@@ -10,15 +10,18 @@ use lib.Seq.{length-take-le, getD-take}
 use borrow.Author.Tests.{eq-eqb, ne-eqb, le-leb, lt-leb}
 use Rattle.order.specs.Steps.{Answer, gives, refused, run}
 use Rattle.octets.specs.Reading.{pick}
-use Rattle.octets.specs.Buffers.{withFront}
+use Rattle.octets.specs.Buffers.{withFront, withOctets}
 use Rattle.octets.specs.Refusals.{ACCEPTED, BAD-CALL}
-use Rattle.text.specs.Text.{withText, Written}
+use Rattle.text.specs.Text.{Written}
+use Rattle.records.specs.Layout.{ID}
+use Rattle.store.specs.Slots.{slotCount}
 use Rattle.withdrawal.specs.SlotSets.{slotsFrom}
 use Rattle.withdrawal.specs.Order.{Listing, after, falls, affected, drawing, listedFor, page}
 use Rattle.withdrawal.specs.Demand.{named}
 use Rattle.withdrawal.proofs.SlotSets.{slots-fit}
 use Rattle.page_text.specs.Lines.{linesOf, headOf, countOf, refusedOf}
 use Rattle.page_text.specs.Page.{inputLength, storeIn, idIn, secondIn, listed, pageOf, pageText, pageCall}
+use Rattle.page_text.specs.Sizes.{pageLength}
 use Rattle.page_text.proofs.Printed.{list-fits}
 
 module _ (p : ℕ → Bool) where
@@ -36,19 +39,19 @@ module _ (p : ℕ → Bool) where
 
 -- the list has n places, and the first n octets are slots
 pub record Slots (p : Listing) : Type 0 where
-  pub few : p .n ≤ 64
+  pub few : p .n ≤ slotCount
   pub room : p .n ≤ length (p .list)
-  pub below : (i : ℕ) → i < p .n → getD (p .list) i 0 < 64
+  pub below : (i : ℕ) → i < p .n → getD (p .list) i 0 < slotCount
 
 answer-slots : (s l : List ℕ) (t : ℕ) (a : Answer ℕ) → Slots (listedFor s t l a)
 unfolding listedFor affected
 answer-slots s l t (gives c) =
     let p = falls s (after s c) t in
-    let slots = slotsFrom p 0 64 in
+    let slots = slotsFrom p 0 slotCount in
     record {
-      few = slots-fit p 0 64;
+      few = slots-fit p 0 slotCount;
       room = omega (arith, length-append slots (drop (length slots) l));
-      below = λ i h. rw (List·getD-append slots (drop (length slots) l) 0 i h) (slots-below p 0 64 i h);
+      below = λ i h. rw (List·getD-append slots (drop (length slots) l) 0 i h) (slots-below p 0 slotCount i h);
     }
 answer-slots s l t (refused k) = record { few = omega arith; room = omega arith; below = λ i h. absurd (omega arith) }
 
@@ -61,13 +64,13 @@ module _ (p : Listing) (good : Slots p) where
   pub named-long : length (named p) ≡ p .n
   named-long = length-take-le (p .n) (p .list) (good .room)
 
-  pub named-below : (i : ℕ) → i < length (named p) → getD (named p) i 0 < 64
+  pub named-below : (i : ℕ) → i < length (named p) → getD (named p) i 0 < slotCount
   named-below i h =
       let k : i < p .n = omega (arith, named-long) in
       rw (getD-take (p .n) (p .list) i 0 k) (good .below i k)
 
-  pub named-fits : (s id : List ℕ) (t : ℕ) → length id ≡ 8 → t < 2 ^ 32
-      → length (headOf id t ++ linesOf s (named p) ++ countOf (length (named p))) ≤ 6144
+  pub named-fits : (s id : List ℕ) (t : ℕ) → length id ≡ ID .count → t < 2 ^ 32
+      → length (headOf id t ++ linesOf s (named p) ++ countOf (length (named p))) ≤ pageLength
   named-fits s id t e h = list-fits s id t (named p) e h (omega (arith, named-long, good .few)) named-below
 
 -- what the code answers names slots too
@@ -106,20 +109,20 @@ module _ (input : List ℕ) where
   that-length e = rw (eq-eqb (length input) inputLength e)
 
   module _ (buffer : List ℕ) where
-    pub call-small : length buffer < 6144 → (0, buffer) ≡ pageCall input buffer
+    pub call-small : length buffer < pageLength → (0, buffer) ≡ pageCall input buffer
     unfolding pageCall
-    call-small h = rw (lt-leb 6144 (length buffer) h)
+    call-small h = rw (lt-leb pageLength (length buffer) h)
 
-    pub call-text : 6144 ≤ length buffer → {r : ℕ} {out : List ℕ} → Written buffer 0 (pageText input) r out
+    pub call-text : pageLength ≤ length buffer → {r : ℕ} {out : List ℕ} → Written buffer 0 (pageText input) r out
         → _≡_ {A = ℕ × List ℕ} (r, out) (pageCall input buffer)
-    unfolding pageCall withText
+    unfolding pageCall withOctets
     call-text h (e, f) =
         let text = pageText input in
         let z : 0 + length text ≡ length text = omega arith in
         ap₂ (λ (n : ℕ) (l : List ℕ). (n, l)) (e ∙ z) (f ∙ ap (λ (n : ℕ). text ++ drop n buffer) z)
-        ∙ sym (ap (λ (b : Bool). pick b (length (pageText input), withFront (pageText input) buffer) (0, buffer)) (le-leb 6144 (length buffer) h))
+        ∙ sym (ap (λ (b : Bool). pick b (length (pageText input), withFront (pageText input) buffer) (0, buffer)) (le-leb pageLength (length buffer) h))
 
     -- the text that is answered lies inside the buffer
     pub call-inside : {r : ℕ} {out : List ℕ} → _≡_ {A = ℕ × List ℕ} (r, out) (pageCall input buffer) → length out ≡ length buffer → r ≤ length out
     unfolding pageCall
-    call-inside e long = inside (leb 6144 (length buffer)) (pageText input) buffer e long
+    call-inside e long = inside (leb pageLength (length buffer)) (pageText input) buffer e long

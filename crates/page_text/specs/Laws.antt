@@ -6,6 +6,7 @@ use lib.Dec.{eqb}
 use lib.ListN.{length, getD}
 use Rattle.octets.specs.Reading.{pick}
 use Rattle.octets.specs.Refusals.{ACCEPTED, BAD-CALL}
+use Rattle.store.specs.Slots.{slotCount}
 use Rattle.withdrawal.specs.Order.{Listing}
 use Rattle.withdrawal.specs.Demand.{named}
 use Rattle.page_text.specs.Lines.{linesOf, headOf, countOf, refusedOf}
@@ -29,10 +30,10 @@ pub record Laws : Type 0 where
   -- else the first line comes, then the lines of exactly the slots that list answers, in its order, then their count
   pub page : (input : List ℕ) → length input ≡ inputLength → answerTo input .number ≡ ACCEPTED
       → pageText input ≡ headOf (idIn input) (secondIn input) ++ linesOf (storeIn input) (named (answerTo input)) ++ countOf (answerTo input .n)
-  -- between the first line and the last there are as many lines as the count says, at most 64; each names a slot
+  -- between the first line and the last there are as many lines as the count says, at most one for each slot; each names a slot
   pub counted : (input : List ℕ) → lineCount (linesOf (storeIn input) (named (answerTo input))) ≡ answerTo input .n
-  pub in-store : (input : List ℕ) (i : ℕ) → i < answerTo input .n → getD (named (answerTo input)) i 0 < 64
-  pub few : (input : List ℕ) → answerTo input .n ≤ 64
+  pub in-store : (input : List ℕ) (i : ℕ) → i < answerTo input .n → getD (named (answerTo input)) i 0 < slotCount
+  pub few : (input : List ℕ) → answerTo input .n ≤ slotCount
   -- the first, the last and a refusal are one line each
   pub first-line : (id : List ℕ) (second : ℕ) → lineCount (headOf id second) ≡ 1
   pub last-line : (n : ℕ) → lineCount (countOf n) ≡ 1

@@ -1,3 +1,4 @@
 pub mod Lines
+pub mod Sizes
 pub mod Page
 pub mod Laws

@@ -4,6 +4,7 @@ use mathlib.Core.List.{List, [], _∷_, _++_}
 use lib.ListN.{take}
 use lib.Dec.{eqb}
 use Rattle.octets.specs.Reading.{pick}
+use Rattle.octets.specs.Kinds.{AUTHORITY, ROOT}
 use Rattle.text.specs.Text.{hexOf, decimalOf}
 use Rattle.records.specs.declared.Name.{Name}
 use Rattle.records.specs.declared.Record.{Record}
@@ -48,9 +49,9 @@ hyphen = 45 ∷ []
 abbrev pub lineFeed : List ℕ
 lineFeed = 10 ∷ []
 
--- kind 4 is a root, 2 an authority, 1 a ticket: a valid store has no other
+-- a root, an authority, a ticket: a valid store has no other
 unfoldable pub kindWord : ℕ → List ℕ
-kindWord kind = pick (eqb kind 4) rootWord (pick (eqb kind 2) authorityWord ticketWord)
+kindWord kind = pick (eqb kind ROOT) rootWord (pick (eqb kind AUTHORITY) authorityWord ticketWord)
 
 -- the name in hexadecimal digits, or a hyphen where there is none
 unfoldable pub nameOf : Name → List ℕ

@@ -3,11 +3,16 @@ ghost use mathlib.Core.List.{_++_};
 ghost use Prim.Native.Nat.{ℕ, _+_, _*_, _≤_, _<_};
 ghost use lib.ListN.{length, getD};
 ghost use Rattle.text.specs.Text.{Written};
+ghost use Rattle.records.specs.Layout.{ID};
 ghost use Rattle.records.specs.Records.{recordOf};
 ghost use Rattle.store.specs.Slots.{slotCount, storeLength, slotOf};
 ghost use Rattle.page_text.specs.Lines.{kindWord, nameOf, lineOf, linesOf, headOf, countOf, refusedOf};
+ghost use Rattle.page_text.specs.Sizes.{nameLength, kindLength, lineLength, headLength, countLength, refusalLength, pageLength};
+use octets::kinds::AUTHORITY;
+use octets::kinds::ROOT;
 use records::Name;
 use records::Record;
+use records::layout::NAME_ROOM;
 use store::slots::record_at;
 use text::decimal::write_decimal;
 use text::hexadecimal::write_hex;
@@ -15,21 +20,21 @@ use text::pieces::write_octet;
 use text::pieces::write_text;
 
 fn write_kind(text: &mut [u8], at: usize, kind: u8) -> usize
-    requires { ⌜ at + 9 ≤ length (now text) ⌝ }
+    requires { ⌜ at + kindLength ≤ length (now text) ⌝ }
     ensures { λ r. ⌜ Written (now (text .entry)) at (kindWord kind) r (now (text .exit)) ⌝ }
 {
-    if kind == 4 {
+    if kind == ROOT {
         return write_text(text, at, b"root");
     }
-    if kind == 2 {
+    if kind == AUTHORITY {
         return write_text(text, at, b"authority");
     }
     write_text(text, at, b"ticket")
 }
 
-// A name has 32 places; a length above that, which no valid store has, ends with them.
+// A length above the room of a name, which no valid store has, ends with it.
 fn write_name(text: &mut [u8], at: usize, name: Name) -> usize
-    requires { ⌜ at + 64 ≤ length (now text) ⌝ }
+    requires { ⌜ at + nameLength ≤ length (now text) ⌝ }
     ensures { λ r. ⌜ Written (now (text .entry)) at (nameOf name) r (now (text .exit)) ⌝ }
 {
     let length = name.length;
@@ -37,7 +42,7 @@ fn write_name(text: &mut [u8], at: usize, name: Name) -> usize
     if length == 0 {
         return write_octet(text, at, b'-');
     }
-    if 32 < length {
+    if NAME_ROOM < length {
         return write_hex(text, at, &octets);
     }
     write_hex(text, at, &octets[..length])
@@ -45,7 +50,7 @@ fn write_name(text: &mut [u8], at: usize, name: Name) -> usize
 
 // The line of a certificate.
 fn write_certificate(text: &mut [u8], at: usize, slot: u32, r: Record) -> usize
-    requires { ⌜ (slot < 64) × (at + 95 ≤ length (now text)) ⌝ }
+    requires { ⌜ (slot < slotCount) × (at + lineLength ≤ length (now text)) ⌝ }
     ensures { λ e. ⌜ Written (now (text .entry)) at (lineOf slot r) e (now (text .exit)) ⌝ }
 {
     let id = r.id;
@@ -63,7 +68,7 @@ fn write_certificate(text: &mut [u8], at: usize, slot: u32, r: Record) -> usize
 
 // The line of the certificate in a slot.
 fn write_line(text: &mut [u8], at: usize, store: &[u8], slot: u8) -> usize
-    requires { ⌜ (slot < slotCount) × (length (now store) ≡ storeLength) × (at + 95 ≤ length (now text)) ⌝ }
+    requires { ⌜ (slot < slotCount) × (length (now store) ≡ storeLength) × (at + lineLength ≤ length (now text)) ⌝ }
     ensures { λ r. ⌜ Written (now (text .entry)) at (lineOf slot (recordOf (slotOf (now (store .entry)) slot))) r (now (text .exit)) ⌝ }
 {
     write_certificate(text, at, slot as u32, record_at(store, slot as usize))
@@ -71,7 +76,7 @@ fn write_line(text: &mut [u8], at: usize, store: &[u8], slot: u8) -> usize
 
 // The lines of the certificates in these slots.
 fn write_lines(text: &mut [u8], at: usize, store: &[u8], slots: &[u8]) -> usize
-    requires { ⌜ (length (now store) ≡ storeLength) × (at + 95 * length (now slots) ≤ length (now text)) × ((i : ℕ) → i < length (now slots) → getD (now slots) i 0 < 64) ⌝ }
+    requires { ⌜ (length (now store) ≡ storeLength) × (at + lineLength * length (now slots) ≤ length (now text)) × ((i : ℕ) → i < length (now slots) → getD (now slots) i 0 < slotCount) ⌝ }
     ensures { λ r. ⌜ Written (now (text .entry)) at (linesOf (now (store .entry)) (now (slots .entry))) r (now (text .exit)) ⌝ }
 {
     let mut end = at;
@@ -84,7 +89,7 @@ fn write_lines(text: &mut [u8], at: usize, store: &[u8], slots: &[u8]) -> usize
 }
 
 fn write_head(text: &mut [u8], id: &[u8], second: u32) -> usize
-    requires { ⌜ (length (now id) ≡ 8) × (40 ≤ length (now text)) ⌝ }
+    requires { ⌜ (length (now id) ≡ ID .count) × (headLength ≤ length (now text)) ⌝ }
     ensures { λ r. ⌜ Written (now (text .entry)) 0 (headOf (now (id .entry)) second) r (now (text .exit)) ⌝ }
 {
     let a = write_text(text, 0, b"withdraw ");
@@ -95,7 +100,7 @@ fn write_head(text: &mut [u8], id: &[u8], second: u32) -> usize
 }
 
 fn write_count(text: &mut [u8], at: usize, n: u32) -> usize
-    requires { ⌜ at + 24 ≤ length (now text) ⌝ }
+    requires { ⌜ at + countLength ≤ length (now text) ⌝ }
     ensures { λ r. ⌜ Written (now (text .entry)) at (countOf n) r (now (text .exit)) ⌝ }
 {
     let a = write_decimal(text, at, n);
@@ -105,7 +110,7 @@ fn write_count(text: &mut [u8], at: usize, n: u32) -> usize
 
 // The text of a refusal.
 pub fn write_refusal(text: &mut [u8], number: u8) -> usize
-    requires { ⌜ 19 ≤ length (now text) ⌝ }
+    requires { ⌜ refusalLength ≤ length (now text) ⌝ }
     ensures { λ r. ⌜ Written (now (text .entry)) 0 (refusedOf number) r (now (text .exit)) ⌝ }
 {
     let a = write_text(text, 0, b"refused ");
@@ -115,7 +120,7 @@ pub fn write_refusal(text: &mut [u8], number: u8) -> usize
 
 // The text of a list: the first line, a line for each of these slots, and the count.
 pub fn write_list(text: &mut [u8], id: &[u8], second: u32, store: &[u8], slots: &[u8]) -> usize
-    requires { ⌜ (length (now id) ≡ 8) × (length (now store) ≡ storeLength) × (length (now slots) ≤ 64) × (6144 ≤ length (now text)) × ((i : ℕ) → i < length (now slots) → getD (now slots) i 0 < 64) ⌝ }
+    requires { ⌜ (length (now id) ≡ ID .count) × (length (now store) ≡ storeLength) × (length (now slots) ≤ slotCount) × (pageLength ≤ length (now text)) × ((i : ℕ) → i < length (now slots) → getD (now slots) i 0 < slotCount) ⌝ }
     ensures { λ r. ⌜ Written (now (text .entry)) 0 (headOf (now (id .entry)) second ++ linesOf (now (store .entry)) (now (slots .entry)) ++ countOf (length (now (slots .entry)))) r (now (text .exit)) ⌝ }
 {
     let a = write_head(text, id, second);

@@ -4,18 +4,25 @@ ghost use Prim.Native.Nat.{ℕ, _≤_};
 ghost use lib.ListN.{length};
 ghost use Rattle.bitfields.specs.Field.{number};
 ghost use Rattle.text.specs.Text.{Written};
-ghost use Rattle.page_text.specs.Page.{listed, pageOf, pageCall};
+ghost use Rattle.records.specs.Layout.{ID};
 ghost use Rattle.store.specs.Slots.{storeLength};
+ghost use Rattle.page_text.specs.Page.{secondLength, listed, pageOf, pageCall};
+ghost use Rattle.page_text.specs.Sizes.{pageLength};
 use crate::lines::write_list;
 use crate::lines::write_refusal;
+use crate::sizes::ID_END;
+use crate::sizes::INPUT_LENGTH;
+use crate::sizes::PAGE_LENGTH;
 use bitfields::reading::wide;
 use octets::refusals::ACCEPTED;
 use octets::refusals::BAD_CALL;
+use store::sizes::SLOTS;
+use store::sizes::STORE_LENGTH;
 use withdrawal::list;
 
 // The number of four octets, the first the highest.
 fn second_of(s: &[u8]) -> u32
-    requires { ⌜ length (now s) ≡ 4 ⌝ }
+    requires { ⌜ length (now s) ≡ secondLength ⌝ }
     ensures { λ r. ⌜ r ≡ number (now (s .entry)) ⌝ }
 {
     let high = wide(s[0]) * 0x100_0000 + wide(s[1]) * 0x1_0000;
@@ -25,10 +32,10 @@ fn second_of(s: &[u8]) -> u32
 
 // The text for a store, an id and a second.
 fn write_page(store: &[u8], id: &[u8], second: u32, text: &mut [u8]) -> u32
-    requires { ⌜ (length (now store) ≡ storeLength) × (length (now id) ≡ 8) × (6144 ≤ length (now text)) ⌝ }
+    requires { ⌜ (length (now store) ≡ storeLength) × (length (now id) ≡ ID .count) × (pageLength ≤ length (now text)) ⌝ }
     ensures { λ r. ⌜ Written (now (text .entry)) 0 (pageOf (now (store .entry)) (now (id .entry)) second (listed (now (store .entry)) (now (id .entry)) second)) r (now (text .exit)) ⌝ }
 {
-    let mut lent = [0u8; 64];
+    let mut lent = [0u8; SLOTS];
     let answer = list(store, id, second, &mut lent);
     if answer.number != ACCEPTED {
         return write_refusal(text, answer.number) as u32;
@@ -41,12 +48,17 @@ fn write_page(store: &[u8], id: &[u8], second: u32, text: &mut [u8]) -> u32
 pub fn page(input: &[u8], text: &mut [u8]) -> u32
     ensures { λ r. ⌜ _≡_ {A = ℕ × List ℕ} (r, now (text .exit)) (pageCall (now (input .entry)) (now (text .entry))) ⌝ }
 {
-    if text.len() < 6144 {
+    if text.len() < PAGE_LENGTH {
         return 0;
     }
-    if input.len() != 13580 {
+    if input.len() != INPUT_LENGTH {
         return write_refusal(text, BAD_CALL) as u32;
     }
-    let second = second_of(&input[13576..13580]);
-    write_page(&input[..13568], &input[13568..13576], second, text)
+    let second = second_of(&input[ID_END..INPUT_LENGTH]);
+    write_page(
+        &input[..STORE_LENGTH],
+        &input[STORE_LENGTH..ID_END],
+        second,
+        text,
+    )
 }

@@ -5,6 +5,7 @@ use lib.ListN.{length}
 use lib.Dec.{eqb}
 use Rattle.octets.specs.Refusals.{ACCEPTED, BAD-CALL, BAD-STORE}
 use Rattle.octets.specs.Reading.{pick}
+use Rattle.records.specs.Layout.{slotLength}
 use Rattle.records.specs.Records.{recordOf, imageOf}
 use Rattle.store.specs.Slots.{storeLength}
 use Rattle.validity.specs.Valid.{validStore}
@@ -14,4 +15,4 @@ validCall store = pick (eqb (length store) storeLength) (pick (validStore store)
 
 -- the record of a slot, written again
 unfoldable pub rewriteCall : List ℕ → List ℕ → ℕ × List ℕ
-rewriteCall slot image = pick (eqb (length slot) 212) (pick (eqb (length image) 212) (ACCEPTED, imageOf (recordOf slot)) (BAD-CALL, image)) (BAD-CALL, image)
+rewriteCall slot image = pick (eqb (length slot) slotLength) (pick (eqb (length image) slotLength) (ACCEPTED, imageOf (recordOf slot)) (BAD-CALL, image)) (BAD-CALL, image)

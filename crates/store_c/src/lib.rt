@@ -9,13 +9,15 @@ use octets::refusals::BAD_CALL;
 use octets::refusals::BAD_STORE;
 use records::decode;
 use records::encode;
+use records::layout::SLOT_LENGTH;
+use store::sizes::STORE_LENGTH;
 use validity::valid;
 
 #[no_mangle]
 pub extern "C" fn store_valid(store: &[u8]) -> u8
     ensures { λ r. ⌜ r ≡ validCall (now (store .entry)) ⌝ }
 {
-    if store.len() != 13568 {
+    if store.len() != STORE_LENGTH {
         return BAD_CALL;
     }
     if !valid(store) {
@@ -28,10 +30,10 @@ pub extern "C" fn store_valid(store: &[u8]) -> u8
 pub extern "C" fn store_rewrite(slot: &[u8], image: &mut [u8]) -> u8
     ensures { λ r. ⌜ _≡_ {A = ℕ × List ℕ} (r, now (image .exit)) (rewriteCall (now (slot .entry)) (now (image .entry))) ⌝ }
 {
-    if slot.len() != 212 {
+    if slot.len() != SLOT_LENGTH {
         return BAD_CALL;
     }
-    if image.len() != 212 {
+    if image.len() != SLOT_LENGTH {
         return BAD_CALL;
     }
     let r = decode(slot);

@@ -5,6 +5,7 @@ use mathlib.Core.List.{List, [], _++_, append-nil}
 use native.Mathlib.Omega.{arith}
 use lib.ListN.{length, drop, drop-of-length-le}
 use borrow.Author.Tests.{eq-eqb, ne-eqb}
+use Rattle.records.specs.Layout.{slotLength}
 use Rattle.records.specs.Ranges.{InRange}
 use Rattle.records.specs.Records.{recordOf, imageOf}
 use Rattle.records.proofs.Decoded.{decoded-in-range}
@@ -42,7 +43,7 @@ unfolding rewriteCall
 returns-3 c =
     let a = c .before .before .before .before .before .before .before .before .before .before .before .args in
     let e : c .before .before .before .before .before .encode .result ≡ imageOf (recordOf (a .slot .now)) = c .before .before .before .before .before .encode .ensures ∙ ap imageOf (c .before .before .before .before .before .before .decode .ensures) in
-    let n : length (c .before .before .before .before .before .encode .result) ≡ 212 = ap length e ∙ image-long (recordOf (a .slot .now)) in
+    let n : length (c .before .before .before .before .before .encode .result) ≡ slotLength = ap length e ∙ image-long (recordOf (a .slot .now)) in
     let d : drop (length (c .before .before .before .before .before .encode .result)) (a .image .now) ≡ [] = let le : length (a .image .now) ≤ length (c .before .before .before .before .before .encode .result) = omega (arith, n, c .before .before .before .before .before .before .before .if2 .left) in drop-of-length-le (a .image .now) le in
     let w : c .before .before .write-front .last .0 ≡ imageOf (recordOf (a .slot .now)) = c .before .before .write-front .ensures ∙ ap (λ (t : List ℕ). c .before .before .before .before .before .encode .result ++ t) d ∙ append-nil (c .before .before .before .before .before .encode .result) ∙ e in
     simp (eq-eqb _ _ (c .before .before .before .before .before .before .before .before .if1 .left), eq-eqb _ _ (c .before .before .before .before .before .before .before .if2 .left), w)

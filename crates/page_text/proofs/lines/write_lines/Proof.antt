@@ -7,12 +7,13 @@ use lib.Seq.{take-all}
 use Rattle.text.specs.Text.{Written}
 use Rattle.text.proofs.Texts.{written-none, written-more}
 use Rattle.page_text.specs.Lines.{linesOf}
+use Rattle.page_text.specs.Sizes.{lineLength}
 use Rattle.page_text.proofs.Printed.{lineAt, line-at-fits, lines-next}
 use Rattle.page_text.proofs.lines.write_lines.Statement.{statement}
 use Rattle.page_text.proofs.lines.write_lines.Tie as tie
 
 abbrev Inv-loop : tie.InvT-loop
-Inv-loop text₀ at store slots end₀ i₀ text end i = (i ≤ length slots) × (length text ≡ length text₀) × (end ≤ at + 95 * i) × Written text₀ at (linesOf store (take i slots)) end text
+Inv-loop text₀ at store slots end₀ i₀ text end i = (i ≤ length slots) × (length text ≡ length text₀) × (end ≤ at + lineLength * i) × Written text₀ at (linesOf store (take i slots)) end text
 
 abbrev μ-loop : tie.MeasureT-loop
 μ-loop text₀ at store slots end₀ i₀ text end i = length slots - i

@@ -2,6 +2,7 @@
 use mathlib.Core.Path.{_≡_}
 use lib.ListN.{length, length-take}
 use native.Mathlib.Omega.{arith}
+use Rattle.records.specs.Layout.{NAME}
 use Rattle.page_text.proofs.Printed.{name-none, name-some, name-all}
 use borrow.Author.Needs.{needs}
 use Rattle.page_text.proofs.lines.write_name.Statement.{statement}
@@ -21,7 +22,7 @@ slice-aggregate-write-hex c = search needs
 
 write-hex-requires : tie.Need-write-hex-requires
 write-hex-requires c κs =
-    let n : length (c .before .before .before .before .before .before .args .name .octets) ≡ 32 = search needs in
+    let n : length (c .before .before .before .before .before .before .args .name .octets) ≡ NAME .count = search needs in
     omega arith
 
 same-length-2 : tie.Need-same-length-2
@@ -29,22 +30,22 @@ same-length-2 c = search needs
 
 returns-2 : tie.Need-returns-2
 returns-2 c =
-    let n : length (c .before .before .before .before .before .before .before .before .before .args .name .octets) ≡ 32 = search needs in
+    let n : length (c .before .before .before .before .before .before .before .before .before .args .name .octets) ≡ NAME .count = search needs in
     rw (name-all (c .before .before .before .before .before .before .before .before .before .args .name) n (omega arith)) (c .before .before .write-hex .ensures)
 
 array-share-prefix-octets : tie.Need-array-share-prefix-octets
 array-share-prefix-octets c =
-    let n : length (c .before .before .before .before .before .args .name .octets) ≡ 32 = search needs in
+    let n : length (c .before .before .before .before .before .args .name .octets) ≡ NAME .count = search needs in
     omega arith
 
 slice-aggregate-write-hex-2 : tie.Need-slice-aggregate-write-hex-2
 slice-aggregate-write-hex-2 c =
-    let n : length (c .before .before .before .before .before .before .args .name .octets) ≡ 32 = search needs in
+    let n : length (c .before .before .before .before .before .before .args .name .octets) ≡ NAME .count = search needs in
     omega (arith, length-take (c .before .before .before .before .before .before .args .name .length) (c .before .before .before .before .before .before .args .name .octets))
 
 write-hex-requires-2 : tie.Need-write-hex-requires-2
 write-hex-requires-2 c κs =
-    let n : length (c .before .before .before .before .before .before .args .name .octets) ≡ 32 = search needs in
+    let n : length (c .before .before .before .before .before .before .args .name .octets) ≡ NAME .count = search needs in
     omega (arith, length-take (c .before .before .before .before .before .before .args .name .length) (c .before .before .before .before .before .before .args .name .octets))
 
 same-length-3 : tie.Need-same-length-3

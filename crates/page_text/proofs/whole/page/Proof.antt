@@ -1,6 +1,8 @@
 -- `page_text::whole::page` meets its contract: a buffer that is too small, another length, a page. Assumes nothing.
 use native.Mathlib.Omega.{arith}
 use lib.ListN.{length-take, length-drop, drop}
+use Rattle.records.specs.Layout.{ID}
+use Rattle.store.specs.Slots.{storeLength}
 use Rattle.page_text.proofs.Printed.{refused-fits}
 use Rattle.page_text.proofs.Pages.{other-length, that-length, call-small, call-text}
 use borrow.Author.Needs.{needs}
@@ -37,7 +39,7 @@ second-of-requires : tie.Need-second-of-requires
 second-of-requires c κs = search needs
 
 slice-aggregate-write-page : tie.Need-slice-aggregate-write-page
-slice-aggregate-write-page c = omega (arith, length-take 13568 (c .before .before .before .before .before .before .before .args .input .now))
+slice-aggregate-write-page c = omega (arith, length-take storeLength (c .before .before .before .before .before .before .before .args .input .now))
 
 sub-write-page : tie.Need-sub-write-page
 sub-write-page c = search needs
@@ -51,7 +53,7 @@ part-write-page-end c = search needs
 write-page-requires : tie.Need-write-page-requires
 write-page-requires c κs =
     let input = c .before .before .before .before .before .before .before .before .before .args .input .now in
-    (omega (arith, length-take 13568 input), omega (arith, length-take 8 (drop 13568 input), length-drop 13568 input), omega arith)
+    (omega (arith, length-take storeLength input), omega (arith, length-take (ID .count) (drop storeLength input), length-drop storeLength input), omega arith)
 
 same-length-2 : tie.Need-same-length-2
 same-length-2 c = search needs
