@@ -13,6 +13,7 @@ use crate::states::GONE;
 use bitfields::writing::put;
 use records::layout::SLOT_BITS;
 use records::layout::STATE_AT;
+use records::layout::STATE_WIDTH;
 
 // Whether the certificate in a slot, which its id finds, counts as withdrawn.
 pub fn withdrawn(store: &[u8], slot: usize) -> bool
@@ -38,5 +39,5 @@ pub fn mark_withdrawn(store: &mut [u8], slot: usize)
     requires { ⌜ (slot < slotCount) × (length (now store) ≡ storeLength) ⌝ }
     ensures { λ _. ⌜ now (store .exit) ≡ withState (now (store .entry)) slot GONE ⌝ }
 {
-    put(store, slot * SLOT_BITS + STATE_AT, 2, GONE as u64);
+    put(store, slot * SLOT_BITS + STATE_AT, STATE_WIDTH, GONE as u64);
 }
