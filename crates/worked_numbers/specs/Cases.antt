@@ -9,8 +9,9 @@ use Rattle.octets.specs.Reading.{Out, got, refused}
 use Rattle.octets.specs.Numbers.{intxAt}
 use Rattle.octets.specs.Durations.{durationAt}
 use Rattle.octets.specs.Coordinates.{latitudeAt}
+use Rattle.store.specs.Slots.{slotCount}
 use Rattle.withdrawal.specs.Order.{written, page}
-use Rattle.worked_numbers.specs.Example.{shown}
+use Rattle.worked_numbers.specs.Example.{eight, shown}
 
 -- octets, and the value with the number of octets read, or the refusal
 pub data Case : Type 0 where
@@ -24,7 +25,7 @@ abbrev pub Holds : Case → Type 0
 Holds (intx s answer) = intxAt s 0 ≡ answer
 Holds (duration s answer) = durationAt s 0 ≡ answer
 Holds (latitude s answer) = latitudeAt s 0 ≡ answer
-Holds (listing store id second slots) = page store id second (replicate 64 0) ≡ written slots (replicate 64 0) store
+Holds (listing store id second slots) = page store id second (replicate slotCount 0) ≡ written slots (replicate slotCount 0) store
 
 abbrev pub AllHold : List Case → Type 0
 AllHold [] = Unit
@@ -43,4 +44,4 @@ table =
     duration (0x60 ∷ 0x02 ∷ []) (got 432000 2) ∷
     duration (0xA0 ∷ 0x00 ∷ []) (refused MALFORMED) ∷
     latitude (0xFF ∷ 0xFF ∷ 0xFF ∷ 0xFF ∷ []) (got (negℤ (pos 1)) 4) ∷
-    listing shown (replicate 8 0x02) 220 (1 ∷ 2 ∷ []) ∷ []
+    listing shown (eight 0x02) 220 (1 ∷ 2 ∷ []) ∷ []
