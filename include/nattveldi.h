@@ -21,7 +21,7 @@ extern "C" {
 /* The version of the library. It is given here alone: the bindings and the
  * installation read it from this line.
  */
-#define NATTVELDI_VERSION "1.0.0"
+#define NATTVELDI_VERSION "1.0.1"
 
 /* The answers. */
 enum {

@@ -21,8 +21,8 @@ use Rattle.verification.proofs.Reading.{carried-standing, digest-in}
 use Rattle.message.specs.Signers.{CARRIED}
 
 module _ (octets : List ℕ) (m : Message) (p : MessageParts) (r : Reads octets m) (q : messageParts m ≡ p) where
-  kind-of : m .headers .signer .form ≡ p .headers .signer .form
-  kind-of = ap (λ (x : MessageParts). x .headers .signer .form) q
+  form-of : m .headers .signer .form ≡ p .headers .signer .form
+  form-of = ap (λ (x : MessageParts). x .headers .signer .form) q
 
   fields-of : p .headers .fields ≡ m .headers .fields
   fields-of = sym (ap (λ (x : MessageParts). x .headers .fields) q)
@@ -33,25 +33,25 @@ module _ (octets : List ℕ) (m : Message) (p : MessageParts) (r : Reads octets 
   module _ (o : Octets octets) (carries : p .headers .signer .form ≡ CARRIED) where
     -- a certificate that it carries
     pub carried-stands : StandsAt octets (p .headers .signer .signed .start)
-    carried-stands = (m .headers .signer .certificate, carried-standing octets m o r (kind-of ∙ carries), starts)
+    carried-stands = (m .headers .signer .certificate, carried-standing octets m o r (form-of ∙ carries), starts)
 
     pub carried-signs : (store : List ℕ) (own : Position)
         → carriedSigner store octets (certificateIn octets (p .headers .signer .signed .start)) (p .headers .fields) own ≡ signerOf store octets m own
     carried-signs store own =
         ap (λ (x : Certificate). carriedSigner store octets x (p .headers .fields) own)
-        (stands-in octets (m .headers .signer .certificate) (carried-standing octets m o r (kind-of ∙ carries)) (p .headers .signer .signed .start) starts)
+        (stands-in octets (m .headers .signer .certificate) (carried-standing octets m o r (form-of ∙ carries)) (p .headers .signer .signed .start) starts)
         ∙ ap (λ (f : Fields). carriedSigner store octets (m .headers .signer .certificate) f own) fields-of
-        ∙ signer-carried store octets m own (eq-eqb _ _ (kind-of ∙ carries))
+        ∙ signer-carried store octets m own (eq-eqb _ _ (form-of ∙ carries))
 
   module _ (names : ¬ (p .headers .signer .form ≡ CARRIED)) where
     -- the id that it names
     pub named-inside : (p .headers .signer .digest .start + 8 ≤ length octets) × (p .headers .signer .digest .length ≡ 8)
     named-inside =
         subst (λ (x : Part). (x .start + 8 ≤ length octets) × (x .length ≡ 8)) (ap (λ (x : MessageParts). x .headers .signer .digest) q)
-        (digest-in octets m r (λ e. names (sym kind-of ∙ e)))
+        (digest-in octets m r (λ e. names (sym form-of ∙ e)))
 
     pub named-signs : (store : List ℕ) (own : Position) → namedSigner store octets (p .headers .signer .digest) (p .headers .fields) own ≡ signerOf store octets m own
     named-signs store own =
         ap (λ (x : Part). namedSigner store octets x (p .headers .fields) own) (sym (ap (λ (x : MessageParts). x .headers .signer .digest) q))
         ∙ ap (λ (f : Fields). namedSigner store octets (m .headers .signer .digest) f own) fields-of
-        ∙ signer-named store octets m own (ne-eqb _ _ (λ e. names (sym kind-of ∙ e)))
+        ∙ signer-named store octets m own (ne-eqb _ _ (λ e. names (sym form-of ∙ e)))

@@ -54,7 +54,7 @@ openedOf (read.Refused k) = refused k
 -- the certificate's question from the signer's parts
 unfoldable pub partsQuestion : List ℕ → SignerParts → ℕ → Question
 partsQuestion store g issuer =
-    pick (eqb (g .kind) 2) (issuerQuestion store (g .signed) (g .signature) (find store issuer)) unasked
+    pick (eqb (g .form) CARRIED) (issuerQuestion store (g .signed) (g .signature) (find store issuer)) unasked
 
 -- the questions and the decision from the parts of a message and what its signer's tests answered
 unfoldable pub preparedFrom : List ℕ → MessageParts → SignerJudged → Prepared

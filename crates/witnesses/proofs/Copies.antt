@@ -37,9 +37,9 @@ use Rattle.message.specs.Signers.{carriedAt, signerInfoAt, signerAt}
 use Rattle.message.specs.Vectors.{headersIn, headersAt}
 use Rattle.message.specs.Bodies.{payloadAt, trailerIn, trailerAt}
 use Rattle.message.specs.Messages.{Message, wholeMessage}
-use Rattle.bitfields.specs.Field.{number, digitsAt, field}
+use Rattle.bitfields.specs.Field.{number, digitsAt, field, octets, withDigits}
 use Rattle.bitfields.specs.Runs.{fieldsOf}
-use Rattle.records.specs.Records.{regionOf, permissionsOf, scopeOf, recordOf, imageOf}
+use Rattle.records.specs.Records.{regionOf, permissionsOf, scopeOf, recordOf, imageOf, itemsOf}
 use Rattle.records.specs.declared.Record.{Record}
 use Rattle.store.specs.Slots.{slotOf, stateAt, withdrawnAt, idAt, issuerAt}
 use Rattle.store.specs.Search.{lowestFrom, find}
@@ -52,7 +52,7 @@ use Rattle.layout.specs.Layout.{written}
 use Rattle.layout.specs.Fields.{fieldsAt}
 use Rattle.signing.specs.Times.{allowedAge, inTime}
 use Rattle.signing.specs.Places.{positionOf}
-use Rattle.signing.specs.Copies.{copySteps, copying}
+use Rattle.signing.specs.Copies.{comparing, copying}
 use Rattle.store.specs.Copies.{sameOctets}
 use Rattle.signing.specs.Signers.{subjectOf, allowed}
 use Rattle.verification.specs.Order.{ownPosition, Passed, passed, judging, question, decision, undecided, preparation, certificateQuestion}
@@ -62,9 +62,11 @@ use Rattle.witnesses.specs.Inputs.{anchor, pass, pass-id, message, at}
 use Rattle.witnesses.specs.Table.{EachReached, AllReached, unjudged, carried, copies}
 use Rattle.witnesses.proofs.Opened.{Open, Allowed, bySigner, inTimeBy, judged, decided, prepared, both}
 use Rattle.witnesses.proofs.Walked.{chained-open, on-chains}
-use Rattle.witnesses.proofs.Images.{slot-0, slot-1, slot-2, slot-3, slot-4, slot-5, slot-6, slot-7, slot-8, slot-9, slot-10, slot-11, chained, other, withdrawn, took, taken-is, same, same-image}
+use Rattle.witnesses.proofs.Images.{chained, took, taken-is, same, same-image}
 use Rattle.witnesses.proofs.Kept.{anchor-at, anchor-kept, anchor-carried-record, pass-at, pass-kept, pass-carried-record}
 use Rattle.witnesses.proofs.Entering.{took-open, pass-new}
+use Rattle.records.proofs.Numbers.{digitsPut, runPut, itemsPut, imagePut}
+use Rattle.store.proofs.Found.{withdrawn-absent}
 
 -- what is read of a message that carries this certificate, and whose payload starts here
 abbrev message-of : Certificate → ℕ → Message
@@ -99,13 +101,13 @@ behind store x m r copy = run (take (run (take (run (take copy (λ w. done r))) 
 judged-behind : (store octets : List ℕ) (x : Situation) → Open store → Allowed x → (c : Certificate) (payload end : ℕ)
     → wholeMessage octets ≡ got (message-of c payload) end → inTime (message-of c payload .headers .fields) (x .time) (x .age) ≡ true → (r : Record)
     → recordFrom octets c ≡ r → run (judging store octets x) ≡ behind store x (message-of c payload) r (run (copying store r))
-unfolding run
+unfolding run withdrawnIn find lowestFrom idAt stateAt
 judged-behind store octets x o a c payload end reads t r is =
     judged store octets x o a ∙ takes (ap answered reads) (inTimeBy store octets x) ∙ passes t 14 (bySigner store octets x (message-of c payload))
     ∙ ap (λ (q : Record). behind store x (message-of c payload) q (run (copying store q))) is
 
 copy-gone : run (copying took pass-kept) ≡ refused 8
-unfolding run took other withdrawn find lowestFrom stateAt idAt field digitsAt number
+unfolding run took imagePut itemsOf itemsPut runPut digitsPut withDigits octets withdrawnIn find lowestFrom stateAt idAt field digitsAt number
 copy-gone = refl
 
 carried-gone : EachReached (unjudged took (carried pass) (at 220000000) 8)
@@ -117,20 +119,21 @@ carried-gone =
 
 -- the slot is not the image of the record
 other-octets : sameOctets (slotOf took 0) same ≡ false
-unfolding took other same sameOctets
+unfolding took same imagePut itemsOf itemsPut runPut digitsPut withDigits octets sameOctets
 other-octets = refl
 
 copy-found : find took (number (anchor-kept .id)) ≡ some 0
-unfolding took other find lowestFrom stateAt idAt field digitsAt number
+unfolding took imagePut itemsOf itemsPut runPut digitsPut withDigits octets find lowestFrom stateAt idAt field digitsAt number
 copy-found = refl
 
-copy-held : not (withdrawnAt took 0) ≡ true
-unfolding took other stateAt field digitsAt number
+copy-held : not (withdrawnIn took (number (anchor-kept .id))) ≡ true
+unfolding took imagePut itemsOf itemsPut runPut digitsPut withDigits octets withdrawnIn find lowestFrom stateAt idAt field digitsAt number
 copy-held = refl
 
 copy-other : run (copying took anchor-kept) ≡ refused 9
 copy-other =
-    ap (λ (i : Option ℕ). run (copySteps took anchor-kept i)) copy-found ∙ passes copy-held 8 (need 9 (sameOctets (slotOf took 0) (imageOf anchor-kept)) (done well))
+    passes copy-held 8 (comparing took anchor-kept (find took (number (anchor-kept .id))))
+    ∙ ap (λ (i : Option ℕ). run (comparing took anchor-kept i)) copy-found
     ∙ fails (ap (sameOctets (slotOf took 0)) same-image ∙ other-octets) 9 (done well)
 
 carried-other : EachReached (unjudged took (carried anchor) (at 220000000) 9)
@@ -143,7 +146,9 @@ carried-other =
 -- no slot of `chains` has its id
 copy-none : run (copying chained pass-kept) ≡ gives well
 unfolding run
-copy-none = ap (λ (i : Option ℕ). run (copySteps chained pass-kept i)) pass-new
+copy-none =
+    passes (ap not (withdrawn-absent chained (number (pass-kept .id)) pass-new)) 8 (comparing chained pass-kept (find chained (number (pass-kept .id))))
+    ∙ ap (λ (i : Option ℕ). run (comparing chained pass-kept i)) pass-new
 
 pass-judged : run (judging chained (carried pass) (at 220000000)) ≡ behind chained (at 220000000) (message-of (pass-at 5) 146) pass-kept (gives well)
 unfolding inTime allowedAge
@@ -152,11 +157,11 @@ pass-judged =
     ∙ ap (behind chained (at 220000000) (message-of (pass-at 5) 146) pass-kept) copy-none
 
 accepted : decision chained (carried pass) (at 220000000) 1 1 ≡ record { number = 0; payload = part 146 2; signer = pass-id; permission = 36; generation = 220000000 }
-unfolding run chained slot-0 slot-1 slot-2 slot-3 slot-4 slot-5 slot-6 slot-7 slot-8 slot-9 slot-10 slot-11 find lowestFrom stateAt idAt field digitsAt number recordOf fieldsOf regionOf permissionsOf scopeOf subjectOf issuerAt subjectAt issuerIn withdrawnIn walk firstOf someOf eachOf insideOf inRegion positionOf
+unfolding run chained imagePut itemsOf itemsPut runPut digitsPut withDigits octets find lowestFrom stateAt idAt field digitsAt number recordOf fieldsOf regionOf permissionsOf scopeOf subjectOf issuerAt subjectAt issuerIn withdrawnIn walk firstOf someOf eachOf insideOf inRegion positionOf
 accepted = decided chained (carried pass) (at 220000000) _ pass-judged 1 1
 
 uncertified : decision chained (carried pass) (at 220000000) 1 0 ≡ undecided 15
-unfolding run chained slot-0 slot-1 slot-2 slot-3 slot-4 slot-5 slot-6 slot-7 slot-8 slot-9 slot-10 slot-11 find lowestFrom stateAt idAt field digitsAt number recordOf fieldsOf regionOf permissionsOf scopeOf subjectOf issuerAt subjectAt issuerIn withdrawnIn walk firstOf someOf eachOf insideOf inRegion positionOf
+unfolding run chained imagePut itemsOf itemsPut runPut digitsPut withDigits octets find lowestFrom stateAt idAt field digitsAt number recordOf fieldsOf regionOf permissionsOf scopeOf subjectOf issuerAt subjectAt issuerIn withdrawnIn walk firstOf someOf eachOf insideOf inRegion positionOf
 uncertified = decided chained (carried pass) (at 220000000) _ pass-judged 1 0
 
 abbrev questions : Prepared
@@ -168,7 +173,7 @@ questions =
     }
 
 asked : preparation chained (carried pass) (at 220000000) ≡ questions
-unfolding run chained slot-0 slot-1 slot-2 slot-3 slot-4 slot-5 slot-6 slot-7 slot-8 slot-9 slot-10 slot-11 find lowestFrom stateAt idAt field digitsAt number recordOf fieldsOf regionOf permissionsOf scopeOf subjectOf issuerAt subjectAt issuerIn withdrawnIn walk firstOf someOf eachOf insideOf inRegion positionOf certificateQuestion fieldsAt bigEndianOctets intxOctets
+unfolding run chained imagePut itemsOf itemsPut runPut digitsPut withDigits octets find lowestFrom stateAt idAt field digitsAt number recordOf fieldsOf regionOf permissionsOf scopeOf subjectOf issuerAt subjectAt issuerIn withdrawnIn walk firstOf someOf eachOf insideOf inRegion positionOf certificateQuestion fieldsAt bigEndianOctets intxOctets
 asked = prepared chained (carried pass) (at 220000000) _ pass-judged
 
 pub copies-reached : AllReached copies

@@ -18,9 +18,9 @@ use Rattle.certificate.specs.Certificates.{certificateAt}
 use Rattle.certificate.specs.Operations.{whole, readingOf}
 use Rattle.certificate.specs.declared.certificates.Certificate.{Certificate}
 use Rattle.layout.specs.Fields.{fieldsAt}
-use Rattle.bitfields.specs.Field.{number, digitsAt, field}
+use Rattle.bitfields.specs.Field.{number, digitsAt, field, octets, withDigits}
 use Rattle.bitfields.specs.Runs.{fieldsOf}
-use Rattle.records.specs.Records.{regionOf, permissionsOf, scopeOf, imageOf}
+use Rattle.records.specs.Records.{regionOf, permissionsOf, scopeOf, imageOf, itemsOf}
 use Rattle.records.specs.declared.Record.{Record}
 use Rattle.store.specs.Slots.{withSlot, stateAt, idAt}
 use Rattle.store.specs.Search.{lowestFrom, find, lowestEmpty}
@@ -33,14 +33,17 @@ use Rattle.admission.specs.Order.{wanted, absent, entered, installed, admitted}
 use Rattle.admission.specs.Computed.{belowNumber, issuerNumber, issuerRefusal, testNumber, placed}
 use Rattle.admission.proofs.Tests.{issuer-unknown, issuer-found, anchor-passes, issuer-asked, test-issuer, test-signature, test-passes}
 use Rattle.admission.proofs.Entered.{placed-stops, placed-full, placed-slot, entered-unread, entered-kind, entered-placed}
-use Rattle.witnesses.specs.Inputs.{eight, anchor, anchor-id, pass, pass-id, empty, marked, chains, taken, gone-issuer, ticket-issuer, other-issuer, short-issuer, bay-issuer}
+use Rattle.witnesses.specs.Inputs.{anchor, anchor-id, pass, pass-id, empty, marked, chains, taken, gone-issuer, ticket-issuer, other-issuer, short-issuer, bay-issuer}
 use Rattle.witnesses.specs.Table.{EachReached, unentered}
 use Rattle.witnesses.proofs.Opened.{Open}
 use Rattle.witnesses.proofs.Empty.{empty-open, empty-finds}
 use Rattle.witnesses.proofs.Lone.{Image, lone, lone-open, lone-found, lone-none, gone-is, ticket-is, unpermitted-is, short-is, bounded-is}
 use Rattle.witnesses.proofs.Walked.{chained-open, on-chains}
-use Rattle.witnesses.proofs.Images.{slot-0, slot-1, slot-2, slot-3, slot-4, slot-5, slot-6, slot-7, slot-8, slot-9, slot-10, slot-11, chained, other, withdrawn, took, taken-is, gone, ticket, unpermitted, short, bounded}
+use Rattle.witnesses.proofs.Images.{chained, took, taken-is, gone, ticket, unpermitted, short, bounded}
 use Rattle.witnesses.proofs.Kept.{anchor-at, anchor-kept, anchor-read, anchor-record, pass-at, pass-kept, pass-read, pass-record}
+use Rattle.sample_stores.specs.Stores.{eight}
+use Rattle.records.proofs.Numbers.{digitsPut, runPut, itemsPut, imagePut}
+use Rattle.store.specs.Withdrawn.{withdrawnIn}
 
 -- ---- before a record is made
 
@@ -102,11 +105,11 @@ module _ (root : Bool) (store octets : List ℕ) (verdict : ℕ) (o : Open store
   goes-to e i n = as-record ∙ sym (placed-slot root store r verdict e i n)
 
 pub took-open : Open took
-unfolding took other withdrawn stateAt idAt field digitsAt number validStore eachBelow slotGood goodSlot goodRecord rectangleGood fresh differs
+unfolding took imagePut itemsOf itemsPut runPut digitsPut withDigits octets stateAt idAt field digitsAt number validStore eachBelow slotGood goodSlot goodRecord rectangleGood fresh differs
 took-open = record { size = refl; good = refl }
 
 anchor-taken-test : _≡_ {A = ℕ} 17 (testNumber true took anchor-kept 1)
-unfolding took other withdrawn testNumber run find lowestFrom stateAt idAt field digitsAt number fieldsOf regionOf permissionsOf scopeOf someOf eachOf insideOf
+unfolding took imagePut itemsOf itemsPut runPut digitsPut withDigits octets testNumber run find lowestFrom stateAt idAt field digitsAt number fieldsOf regionOf permissionsOf scopeOf someOf eachOf insideOf
 anchor-taken-test = refl
 
 anchor-taken : installed took anchor 1 ≡ (17, took)
@@ -114,7 +117,7 @@ unfolding fieldsAt
 anchor-taken = stops true took anchor 1 took-open (anchor-at 0) anchor-kept anchor-read anchor-record refl 17 anchor-taken-test (omega arith)
 
 pass-taken-test : _≡_ {A = ℕ} 17 (testNumber false took pass-kept 1)
-unfolding took other withdrawn testNumber run find lowestFrom stateAt idAt field digitsAt number fieldsOf regionOf permissionsOf scopeOf someOf eachOf insideOf
+unfolding took imagePut itemsOf itemsPut runPut digitsPut withDigits octets testNumber run find lowestFrom stateAt idAt field digitsAt number fieldsOf regionOf permissionsOf scopeOf someOf eachOf insideOf
 pass-taken-test = refl
 
 pass-taken : admitted took pass 1 ≡ (17, took)
@@ -185,55 +188,55 @@ lone-stops l h k e z =
     (by-slot (lone l) 1 (lone-none l (number (eight 0x02)) h (number pass-id) two-pass) 0 (lone-found l (number (eight 0x02)) h) k e z) z
 
 gone-kept : Image gone (number (eight 0x02))
-unfolding gone stateAt idAt field digitsAt number eachBelow goodSlot goodRecord rectangleGood
+unfolding gone imagePut itemsOf itemsPut runPut digitsPut withDigits octets stateAt idAt field digitsAt number eachBelow goodSlot goodRecord rectangleGood
 gone-kept = record { long = refl; good = refl; filled = refl; has-id = refl }
 
 gone-below : belowNumber (lone gone) (pass-kept .scope) 0 ≡ 8
-unfolding gone empty belowNumber run stateAt field digitsAt number fieldsOf regionOf permissionsOf scopeOf someOf eachOf insideOf
+unfolding gone imagePut itemsOf itemsPut runPut digitsPut withDigits octets empty belowNumber run stateAt field digitsAt number fieldsOf regionOf permissionsOf scopeOf someOf eachOf insideOf withdrawnIn find lowestFrom idAt
 gone-below = refl
 
 pub gone-reached : admitted gone-issuer pass 1 ≡ (8, gone-issuer)
 gone-reached = subst (λ (s : List ℕ). admitted s pass 1 ≡ (8, s)) (sym gone-is) (lone-stops gone gone-kept 8 gone-below (omega arith))
 
 ticket-kept : Image ticket (number (eight 0x02))
-unfolding ticket stateAt idAt field digitsAt number eachBelow goodSlot goodRecord rectangleGood
+unfolding ticket imagePut itemsOf itemsPut runPut digitsPut withDigits octets stateAt idAt field digitsAt number eachBelow goodSlot goodRecord rectangleGood
 ticket-kept = record { long = refl; good = refl; filled = refl; has-id = refl }
 
 ticket-below : belowNumber (lone ticket) (pass-kept .scope) 0 ≡ 10
-unfolding ticket empty belowNumber run stateAt field digitsAt number fieldsOf regionOf permissionsOf scopeOf someOf eachOf insideOf
+unfolding ticket imagePut itemsOf itemsPut runPut digitsPut withDigits octets empty belowNumber run stateAt field digitsAt number fieldsOf regionOf permissionsOf scopeOf someOf eachOf insideOf withdrawnIn find lowestFrom idAt
 ticket-below = refl
 
 pub ticket-reached : admitted ticket-issuer pass 1 ≡ (10, ticket-issuer)
 ticket-reached = subst (λ (s : List ℕ). admitted s pass 1 ≡ (10, s)) (sym ticket-is) (lone-stops ticket ticket-kept 10 ticket-below (omega arith))
 
 unpermitted-kept : Image unpermitted (number (eight 0x02))
-unfolding unpermitted stateAt idAt field digitsAt number eachBelow goodSlot goodRecord rectangleGood
+unfolding unpermitted imagePut itemsOf itemsPut runPut digitsPut withDigits octets stateAt idAt field digitsAt number eachBelow goodSlot goodRecord rectangleGood
 unpermitted-kept = record { long = refl; good = refl; filled = refl; has-id = refl }
 
 unpermitted-below : belowNumber (lone unpermitted) (pass-kept .scope) 0 ≡ 11
-unfolding unpermitted empty belowNumber run stateAt field digitsAt number fieldsOf regionOf permissionsOf scopeOf someOf eachOf insideOf
+unfolding unpermitted imagePut itemsOf itemsPut runPut digitsPut withDigits octets empty belowNumber run stateAt field digitsAt number fieldsOf regionOf permissionsOf scopeOf someOf eachOf insideOf withdrawnIn find lowestFrom idAt
 unpermitted-below = refl
 
 pub unpermitted-reached : admitted other-issuer pass 1 ≡ (11, other-issuer)
 unpermitted-reached = subst (λ (s : List ℕ). admitted s pass 1 ≡ (11, s)) (sym unpermitted-is) (lone-stops unpermitted unpermitted-kept 11 unpermitted-below (omega arith))
 
 short-kept : Image short (number (eight 0x02))
-unfolding short stateAt idAt field digitsAt number eachBelow goodSlot goodRecord rectangleGood
+unfolding short imagePut itemsOf itemsPut runPut digitsPut withDigits octets stateAt idAt field digitsAt number eachBelow goodSlot goodRecord rectangleGood
 short-kept = record { long = refl; good = refl; filled = refl; has-id = refl }
 
 short-below : belowNumber (lone short) (pass-kept .scope) 0 ≡ 12
-unfolding short empty belowNumber run stateAt field digitsAt number fieldsOf regionOf permissionsOf scopeOf someOf eachOf insideOf
+unfolding short imagePut itemsOf itemsPut runPut digitsPut withDigits octets empty belowNumber run stateAt field digitsAt number fieldsOf regionOf permissionsOf scopeOf someOf eachOf insideOf withdrawnIn find lowestFrom idAt
 short-below = refl
 
 pub short-reached : admitted short-issuer pass 1 ≡ (12, short-issuer)
 short-reached = subst (λ (s : List ℕ). admitted s pass 1 ≡ (12, s)) (sym short-is) (lone-stops short short-kept 12 short-below (omega arith))
 
 bounded-kept : Image bounded (number (eight 0x02))
-unfolding bounded stateAt idAt field digitsAt number eachBelow goodSlot goodRecord rectangleGood
+unfolding bounded imagePut itemsOf itemsPut runPut digitsPut withDigits octets stateAt idAt field digitsAt number eachBelow goodSlot goodRecord rectangleGood
 bounded-kept = record { long = refl; good = refl; filled = refl; has-id = refl }
 
 bounded-below : belowNumber (lone bounded) (pass-kept .scope) 0 ≡ 13
-unfolding bounded empty belowNumber run stateAt field digitsAt number fieldsOf regionOf permissionsOf scopeOf someOf eachOf insideOf
+unfolding bounded imagePut itemsOf itemsPut runPut digitsPut withDigits octets empty belowNumber run stateAt field digitsAt number fieldsOf regionOf permissionsOf scopeOf someOf eachOf insideOf withdrawnIn find lowestFrom idAt
 bounded-below = refl
 
 pub bounded-reached : admitted bay-issuer pass 1 ≡ (13, bay-issuer)
@@ -242,19 +245,19 @@ bounded-reached = subst (λ (s : List ℕ). admitted s pass 1 ≡ (13, s)) (sym 
 -- ---- the ticket, in `chains`
 
 pub pass-new : find chained (number pass-id) ≡ none
-unfolding chained slot-0 slot-1 slot-2 slot-3 slot-4 slot-5 slot-6 slot-7 slot-8 slot-9 slot-10 slot-11 find lowestFrom stateAt idAt field digitsAt number
+unfolding chained imagePut itemsOf itemsPut runPut digitsPut withDigits octets find lowestFrom stateAt idAt field digitsAt number
 pass-new = refl
 
 issuer-slot : find chained (number (eight 0x02)) ≡ some 1
-unfolding chained slot-0 slot-1 slot-2 slot-3 slot-4 slot-5 slot-6 slot-7 slot-8 slot-9 slot-10 slot-11 find lowestFrom stateAt idAt field digitsAt number
+unfolding chained imagePut itemsOf itemsPut runPut digitsPut withDigits octets find lowestFrom stateAt idAt field digitsAt number
 issuer-slot = refl
 
 issuer-below : belowNumber chained (pass-kept .scope) 1 ≡ 0
-unfolding chained slot-0 slot-1 slot-2 slot-3 slot-4 slot-5 slot-6 slot-7 slot-8 slot-9 slot-10 slot-11 belowNumber run stateAt field digitsAt number fieldsOf regionOf permissionsOf scopeOf someOf eachOf insideOf
+unfolding chained imagePut itemsOf itemsPut runPut digitsPut withDigits octets belowNumber run stateAt field digitsAt number fieldsOf regionOf permissionsOf scopeOf someOf eachOf insideOf withdrawnIn find lowestFrom idAt
 issuer-below = refl
 
 chained-slot : lowestEmpty chained ≡ some 12
-unfolding chained slot-0 slot-1 slot-2 slot-3 slot-4 slot-5 slot-6 slot-7 slot-8 slot-9 slot-10 slot-11 lowestEmpty lowestFrom stateAt field digitsAt number
+unfolding chained imagePut itemsOf itemsPut runPut digitsPut withDigits octets lowestEmpty lowestFrom stateAt field digitsAt number
 chained-slot = refl
 
 pub pass-unverified : admitted chains pass 0 ≡ (15, chains)

@@ -15,16 +15,16 @@ use Rattle.geo.specs.Area.{unused, insideOf}
 use Rattle.order.specs.Steps.{firstOf}
 use Rattle.bitfields.specs.Field.{number, field}
 use Rattle.scope.specs.Issued.{issuedNumber}
-use Rattle.records.specs.Layout.{ID, valuesOf}
+use Rattle.records.specs.Layout.{ID, valuesOf, slotLength}
 use Rattle.records.specs.Ranges.{InRange, Edges, Sized}
 use Rattle.records.specs.Records.{imageOf, scopeOf, recordOf}
 use Rattle.records.specs.declared.Record.{Record}
 use Rattle.records.proofs.Fields.{image-long, image-id, image-state}
 use Rattle.records.proofs.Trip.{round-trip}
-use Rattle.store.specs.Slots.{slotOf, EMPTY, GONE, stateAt, filledAt, idAt}
+use Rattle.store.specs.Slots.{slotOf, EMPTY, GONE, stateAt, filledAt, idAt, storeLength}
 use Rattle.store.specs.Search.{find, lowestEmpty}
 use Rattle.store.proofs.Stored.{id-number}
-use Rattle.store.proofs.Found.{find-finds, find-only, empty-finds}
+use Rattle.store.proofs.Found.{find-finds, find-only, empty-finds, withdrawn-found}
 use Rattle.validity.specs.Good.{goodSlot}
 use Rattle.validity.specs.Laws.{Valid}
 use Rattle.validity.proofs.Laws.{laws}
@@ -34,10 +34,11 @@ use Rattle.admission.specs.Order.{absent, installed, admitted}
 use Rattle.admission.specs.Computed.{belowNumber, testNumber}
 use Rattle.admission.proofs.Good.{image-good}
 use Rattle.admission.proofs.Tests.{below-held, anchor-passes, test-passes}
-use Rattle.witnesses.specs.Inputs.{eight, anchor, anchor-id, pass, pass-id, images, authority, authorities, full}
+use Rattle.witnesses.specs.Inputs.{anchor, anchor-id, pass, pass-id, authority, authorities, full}
 use Rattle.witnesses.proofs.Opened.{Open}
 use Rattle.witnesses.proofs.Kept.{anchor-at, anchor-kept, anchor-read, anchor-record, pass-at, pass-kept, pass-read, pass-record}
 use Rattle.witnesses.proofs.Entering.{full-at, passing}
+use Rattle.sample_stores.specs.Stores.{eight, images}
 
 -- ---- one of its records
 
@@ -111,30 +112,30 @@ module _ (o : ℕ) (h : o < 64) where
 
 -- ---- its slots
 
-images-long : (n o : ℕ) → length (images (authorities n o)) ≡ n * 212
+images-long : (n o : ℕ) → length (images (authorities n o)) ≡ n * slotLength
 images-long zero o = refl
 images-long (suc n) o =
     length-append (imageOf (authority o)) (images (authorities n (suc o))) ∙ omega (arith, image-long (authority o), images-long n (suc o))
 
-slot-is : (n o i : ℕ) (rest : List ℕ) → i < n → take 212 (drop (i * 212) (images (authorities n o) ++ rest)) ≡ imageOf (authority (o + i))
+slot-is : (n o i : ℕ) (rest : List ℕ) → i < n → take slotLength (drop (i * slotLength) (images (authorities n o) ++ rest)) ≡ imageOf (authority (o + i))
 slot-is zero o i rest h = absurd (omega arith)
 slot-is (suc n) o zero rest h =
     let e : o ≡ o + 0 = omega arith in
-    ap (take 212) (append-assoc (imageOf (authority o)) (images (authorities n (suc o))) rest)
-    ∙ take-at (imageOf (authority o)) (images (authorities n (suc o)) ++ rest) 212 (image-long (authority o))
+    ap (take slotLength) (append-assoc (imageOf (authority o)) (images (authorities n (suc o))) rest)
+    ∙ take-at (imageOf (authority o)) (images (authorities n (suc o)) ++ rest) slotLength (image-long (authority o))
     ∙ ap (λ (k : ℕ). imageOf (authority k)) e
 slot-is (suc n) o (suc i) rest h =
     let a : List ℕ = imageOf (authority o) in
     let more : List ℕ = images (authorities n (suc o)) in
-    let skip : suc i * 212 ≡ length a + i * 212 = omega (arith, image-long (authority o)) in
+    let skip : suc i * slotLength ≡ length a + i * slotLength = omega (arith, image-long (authority o)) in
     let e : suc o + i ≡ o + suc i = omega arith in
-    ap (λ (t : List ℕ). take 212 (drop (suc i * 212) t)) (append-assoc a more rest)
-    ∙ ap (λ (k : ℕ). take 212 (drop k (a ++ (more ++ rest)))) skip
-    ∙ ap (take 212) (drop-append-add a (more ++ rest) (i * 212))
+    ap (λ (t : List ℕ). take slotLength (drop (suc i * slotLength) t)) (append-assoc a more rest)
+    ∙ ap (λ (k : ℕ). take slotLength (drop k (a ++ (more ++ rest)))) skip
+    ∙ ap (take slotLength) (drop-append-add a (more ++ rest) (i * slotLength))
     ∙ slot-is n (suc o) i rest (omega arith)
     ∙ ap (λ (k : ℕ). imageOf (authority k)) e
 
-long : length full ≡ 13568
+long : length full ≡ storeLength
 unfolding full
 long = length-append (images (authorities 64 0)) (replicate 0 0) ∙ omega (arith, images-long 64 0)
 
@@ -167,7 +168,7 @@ valid =
     }
 
 full-open : Open full
-full-open = record { size = eq-eqb (length full) 13568 long; good = laws .valid-exactly full .1 valid }
+full-open = record { size = eq-eqb (length full) storeLength long; good = laws .valid-exactly full .1 valid }
 
 -- ---- what is found in it
 
@@ -218,7 +219,9 @@ issued = refl
 
 issuer-below : belowNumber full (pass-kept .scope) 2 ≡ 0
 issuer-below =
-    sym (below-held full (pass-kept .scope) 2 (ap (λ (k : ℕ). eqb k GONE) (state-full 2 (omega arith)))) ∙ ap (issuedNumber (pass-kept .scope)) issuer-scope
+    sym (below-held full (pass-kept .scope) 2
+    (withdrawn-found full (idAt full 2) 2 (find-only full (valid .distinct) 2 (omega arith) (filled 2 (omega arith))) ∙ ap (λ (k : ℕ). eqb k GONE) (state-full 2 (omega arith))))
+    ∙ ap (issuedNumber (pass-kept .scope)) issuer-scope
     ∙ issued
 
 pub pass-full : admitted full pass 1 ≡ (16, full)

@@ -32,9 +32,10 @@ use Rattle.records.specs.declared.Record.{Record}
 use Rattle.store.specs.Slots.{HELD}
 use Rattle.entries.specs.Readable.{accepted}
 use Rattle.entries.specs.Stored.{idFrom, scopeFrom, recordFrom}
-use Rattle.witnesses.specs.Inputs.{eight, contents, anchor, anchor-id, pass, pass-id, everywhere as unbounded, stored, message}
+use Rattle.witnesses.specs.Inputs.{contents, anchor, anchor-id, pass, pass-id, everywhere as unbounded, stored, message}
 use Rattle.witnesses.specs.Table.{carried}
 use Rattle.witnesses.proofs.Hashes.{anchor-hash, pass-hash}
+use Rattle.sample_stores.specs.Stores.{eight}
 
 -- what is read of them where they stand
 abbrev pub anchor-at : ℕ → Certificate

@@ -10,13 +10,13 @@ use lib.ListN.{length, replicate}
 use Rattle.order.specs.Steps.{Answer, gives, refused, run, firstOf}
 use Rattle.geo.specs.Tests.{someOf, eachOf}
 use Rattle.geo.specs.Area.{insideOf}
-use Rattle.bitfields.specs.Field.{number, digitsAt, field, Octets}
+use Rattle.bitfields.specs.Field.{number, digitsAt, field, Octets, octets, withDigits}
 use Rattle.bitfields.specs.Runs.{fieldsOf}
 use Rattle.bitfields.proofs.Octets.{octets-join, octets-zeros}
-use Rattle.records.specs.Records.{regionOf, permissionsOf, scopeOf, imageOf}
+use Rattle.records.specs.Records.{regionOf, permissionsOf, scopeOf, imageOf, itemsOf}
 use Rattle.records.specs.declared.Record.{Record}
 use Rattle.records.proofs.Laws.{laws}
-use Rattle.store.specs.Slots.{stateAt, filledAt, idAt, issuerAt}
+use Rattle.store.specs.Slots.{stateAt, filledAt, idAt, issuerAt, slotCount}
 use Rattle.store.specs.Search.{lowestFrom, find}
 use Rattle.validity.specs.Each.{eachBelow}
 use Rattle.validity.specs.Good.{goodSlot}
@@ -30,15 +30,18 @@ use Rattle.withdrawal.specs.Computed.{heldAt, fallsWith}
 use Rattle.withdrawal.specs.Order as order
 use Rattle.withdrawal.proofs.Asked.{asked-unknown, asked-at, page-asked, page-refused, withdrawal-asked}
 use Rattle.withdrawal.proofs.Fallen.{slots-affected}
-use Rattle.witnesses.specs.Inputs.{eight, images, certificates, empty, marked, chains}
+use Rattle.witnesses.specs.Inputs.{certificates, empty, marked, chains}
 use Rattle.witnesses.specs.Table.{EachReached, AllReached, unlisted, listing}
 use Rattle.witnesses.proofs.Opened.{Open}
 use Rattle.witnesses.proofs.Empty.{empty-open, empty-finds}
 use Rattle.witnesses.proofs.Walked.{chained-open, on-chains}
-use Rattle.witnesses.proofs.Images.{slot-0, slot-1, slot-2, slot-3, slot-4, slot-5, slot-6, slot-7, slot-8, slot-9, slot-10, slot-11, chained, chains-are}
+use Rattle.witnesses.proofs.Images.{chained, chains-are, chained-octets}
+use Rattle.sample_stores.specs.Stores.{eight, images}
+use Rattle.records.proofs.Numbers.{digitsPut, runPut, itemsPut, imagePut}
+use Rattle.store.specs.Withdrawn.{withdrawnIn}
 
 pair : (store id : List ℕ) (k : ℕ) → asked store id ≡ refused k → EachReached (unlisted store id k)
-pair store id k e = (sym (page-refused store id 220 (replicate 64 0) k (lit≤ tt) e), (sym (withdrawal-asked store id (refused k) e), tt))
+pair store id k e = (sym (page-refused store id 220 (replicate slotCount 0) k (lit≤ tt) e), (sym (withdrawal-asked store id (refused k) e), tt))
 
 short-store : EachReached (unlisted [] (eight 0x02) 1)
 unfolding asked run
@@ -66,34 +69,26 @@ unknown =
     (sym (asked-unknown empty (eight 0x02) (eqb-true _ _ (empty-open .size)) refl (empty-open .good) (empty-finds (number (eight 0x02)))))
 
 gone : EachReached (unlisted chained (eight 0x04) 8)
-unfolding heldAt chained slot-0 slot-1 slot-2 slot-3 slot-4 slot-5 slot-6 slot-7 slot-8 slot-9 slot-10 slot-11 find lowestFrom stateAt idAt field digitsAt number
+unfolding heldAt withdrawnIn chained imagePut itemsOf itemsPut runPut digitsPut withDigits octets find lowestFrom stateAt idAt field digitsAt number
 gone = pair chained (eight 0x04) 8 (slot-in chained (eight 0x04) chained-open refl 3 refl (refused 8) refl)
 
 place : asked chained (eight 0x02) ≡ gives 1
-unfolding heldAt chained slot-0 slot-1 slot-2 slot-3 slot-4 slot-5 slot-6 slot-7 slot-8 slot-9 slot-10 slot-11 find lowestFrom stateAt idAt field digitsAt number
+unfolding heldAt withdrawnIn chained imagePut itemsOf itemsPut runPut digitsPut withDigits octets find lowestFrom stateAt idAt field digitsAt number
 place = slot-in chained (eight 0x02) chained-open refl 1 refl (gives 1) refl
 
-fallen : slotsFrom (fallsWith chained 220 1) 0 64 ≡ 1 ∷ 2 ∷ 4 ∷ 5 ∷ 6 ∷ 7 ∷ 8 ∷ 9 ∷ 10 ∷ []
-unfolding chained slot-0 slot-1 slot-2 slot-3 slot-4 slot-5 slot-6 slot-7 slot-8 slot-9 slot-10 slot-11 find lowestFrom stateAt idAt issuerAt field digitsAt number fieldsOf regionOf permissionsOf scopeOf subjectAt issuerIn alsoAt walkNumber walk run firstOf someOf eachOf insideOf fallsWith slotsFrom
+fallen : slotsFrom (fallsWith chained 220 1) 0 slotCount ≡ 1 ∷ 2 ∷ 4 ∷ 5 ∷ 6 ∷ 7 ∷ 8 ∷ 9 ∷ 10 ∷ []
+unfolding chained imagePut itemsOf itemsPut runPut digitsPut withDigits octets find lowestFrom stateAt idAt issuerAt field digitsAt number fieldsOf regionOf permissionsOf scopeOf subjectAt issuerIn alsoAt withdrawnIn walkNumber walk run firstOf someOf eachOf insideOf fallsWith slotsFrom
 fallen = refl
 
 filled : filledAt chained 1 ≡ true
-unfolding chained slot-0 slot-1 slot-2 slot-3 slot-4 slot-5 slot-6 slot-7 slot-8 slot-9 slot-10 slot-11 stateAt field digitsAt number
+unfolding chained imagePut itemsOf itemsPut runPut digitsPut withDigits octets stateAt field digitsAt number
 filled = refl
 
-images-octets : (rs : List Record) → Octets (images rs)
-images-octets [] = octets-zeros 0
-images-octets (r ∷ rs) = octets-join (imageOf r) (images rs) (laws .image-octets r) (images-octets rs)
-
-chained-octets : Octets chained
-unfolding chains
-chained-octets = subst Octets chains-are (octets-join (images certificates) (replicate 11024 0) (images-octets certificates) (octets-zeros 11024))
-
-listed : page chained (eight 0x02) 220 (replicate 64 0) ≡ order.written (1 ∷ 2 ∷ 4 ∷ 5 ∷ 6 ∷ 7 ∷ 8 ∷ 9 ∷ 10 ∷ []) (replicate 64 0) chained
+listed : page chained (eight 0x02) 220 (replicate slotCount 0) ≡ order.written (1 ∷ 2 ∷ 4 ∷ 5 ∷ 6 ∷ 7 ∷ 8 ∷ 9 ∷ 10 ∷ []) (replicate slotCount 0) chained
 unfolding listedFor
 listed =
-    sym (page-asked chained (eight 0x02) 220 (replicate 64 0) (gives 1) (lit≤ tt) place)
-    ∙ ap (λ (l : List ℕ). order.written l (replicate 64 0) chained) (sym (slots-affected chained 1 220 chained-octets (chained-open .good) (lit≤ tt) filled) ∙ fallen)
+    sym (page-asked chained (eight 0x02) 220 (replicate slotCount 0) (gives 1) (lit≤ tt) place)
+    ∙ ap (λ (l : List ℕ). order.written l (replicate slotCount 0) chained) (sym (slots-affected chained 1 220 chained-octets (chained-open .good) (lit≤ tt) filled) ∙ fallen)
 
 pub listing-reached : AllReached listing
 listing-reached = (
@@ -110,7 +105,7 @@ listing-reached = (
             on-chains (λ s. EachReached (unlisted s (eight 0x04) 8)) gone,
             (
               (
-                on-chains (λ s. page s (eight 0x02) 220 (replicate 64 0) ≡ order.written (1 ∷ 2 ∷ 4 ∷ 5 ∷ 6 ∷ 7 ∷ 8 ∷ 9 ∷ 10 ∷ []) (replicate 64 0) s) listed,
+                on-chains (λ s. page s (eight 0x02) 220 (replicate slotCount 0) ≡ order.written (1 ∷ 2 ∷ 4 ∷ 5 ∷ 6 ∷ 7 ∷ 8 ∷ 9 ∷ 10 ∷ []) (replicate slotCount 0) s) listed,
                 (
                   on-chains (λ s. withdrawal s (eight 0x02) ≡ (0, after s 1)) (sym (withdrawal-asked chained (eight 0x02) (gives 1) place)),
                   tt,

@@ -11,7 +11,7 @@ use lib.Dec.{eqb}
 use lib.ListN.{length, replicate}
 use Rattle.geo.proofs.Bools.{never}
 use Rattle.bitfields.specs.Field.{field}
-use Rattle.store.specs.Slots.{slotOf, withSlot, EMPTY, stateAt, filledAt, idAt}
+use Rattle.store.specs.Slots.{slotOf, withSlot, EMPTY, stateAt, filledAt, idAt, storeLength}
 use Rattle.store.specs.Search.{find}
 use Rattle.store.proofs.Places.{slot-same, slot-other, length-withSlot}
 use Rattle.store.proofs.Found.{find-finds, find-only}
@@ -22,6 +22,8 @@ use Rattle.witnesses.specs.Inputs.{empty, gone-issuer, ticket-issuer, ot
 use Rattle.witnesses.proofs.Opened.{Open}
 use Rattle.witnesses.proofs.Empty.{empty-open, empty-states}
 use Rattle.witnesses.proofs.Images.{gone, gone-image, ticket, ticket-image, unpermitted, unpermitted-image, short, short-image, bounded, bounded-image}
+use Rattle.records.specs.Layout.{slotLength}
+use Rattle.sample_stores.specs.Stores.{rest}
 
 abbrev pub lone : List ℕ → List ℕ
 lone image = withSlot empty 0 image
@@ -30,31 +32,31 @@ append-nil : (l : List ℕ) → l ++ [] ≡ l
 append-nil [] = refl
 append-nil (a ∷ l) = ap (λ (t : List ℕ). a ∷ t) (append-nil l)
 
-lone-is : (l : List ℕ) → l ++ [] ++ replicate 13356 0 ≡ lone l
+lone-is : (l : List ℕ) → l ++ [] ++ rest 1 ≡ lone l
 unfolding empty
-lone-is l = ap (λ (t : List ℕ). t ++ replicate 13356 0) (append-nil l)
+lone-is l = ap (λ (t : List ℕ). t ++ rest 1) (append-nil l)
 
 pub gone-is : gone-issuer ≡ lone gone
 unfolding gone-issuer
-gone-is = (λ d. gone-image d ++ [] ++ replicate 13356 0) ∙ lone-is gone
+gone-is = (λ d. gone-image d ++ [] ++ rest 1) ∙ lone-is gone
 
 pub ticket-is : ticket-issuer ≡ lone ticket
 unfolding ticket-issuer
-ticket-is = (λ d. ticket-image d ++ [] ++ replicate 13356 0) ∙ lone-is ticket
+ticket-is = (λ d. ticket-image d ++ [] ++ rest 1) ∙ lone-is ticket
 
 pub unpermitted-is : other-issuer ≡ lone unpermitted
 unfolding other-issuer
-unpermitted-is = (λ d. unpermitted-image d ++ [] ++ replicate 13356 0) ∙ lone-is unpermitted
+unpermitted-is = (λ d. unpermitted-image d ++ [] ++ rest 1) ∙ lone-is unpermitted
 
 pub short-is : short-issuer ≡ lone short
 unfolding short-issuer
-short-is = (λ d. short-image d ++ [] ++ replicate 13356 0) ∙ lone-is short
+short-is = (λ d. short-image d ++ [] ++ rest 1) ∙ lone-is short
 
 pub bounded-is : bay-issuer ≡ lone bounded
 unfolding bay-issuer
-bounded-is = (λ d. bounded-image d ++ [] ++ replicate 13356 0) ∙ lone-is bounded
+bounded-is = (λ d. bounded-image d ++ [] ++ rest 1) ∙ lone-is bounded
 
-size : length empty ≡ 13568
+size : length empty ≡ storeLength
 size = eqb-true _ _ (empty-open .size)
 
 empty-valid : Valid empty
@@ -62,7 +64,7 @@ empty-valid = laws .valid-exactly empty .0 (empty-open .good)
 
 -- 212 octets that keep the rules, whose state is not 0
 pub record Image (l : List ℕ) (id : ℕ) : Type 0 where
-  pub long : length l ≡ 212
+  pub long : length l ≡ slotLength
   pub good : goodSlot l ≡ true
   pub filled : not (eqb (field l 128 2) EMPTY) ≡ true
   pub has-id : field l 0 64 ≡ id
@@ -99,7 +101,7 @@ module _ (l : List ℕ) (id : ℕ) (h : Image l id) where
   valid = record { size = length-withSlot empty 0 l size (omega arith) (h .long) ∙ size; slots = slots; distinct = distinct }
 
   pub lone-open : Open (lone l)
-  lone-open = record { size = eq-eqb (length (lone l)) 13568 (valid .size); good = laws .valid-exactly (lone l) .1 valid }
+  lone-open = record { size = eq-eqb (length (lone l)) storeLength (valid .size); good = laws .valid-exactly (lone l) .1 valid }
 
   pub lone-found : find (lone l) id ≡ some 0
   lone-found = ap (find (lone l)) (sym here-id) ∙ find-only (lone l) distinct 0 (omega arith) here-filled

@@ -16,6 +16,7 @@ use Rattle.signing.specs.Signers.{signed}
 use Rattle.verification.specs.Order.{ownPosition, Passed, passed, judging, verified, decisionOf, decision, questionsFor, preparedOf, preparation}
 use Rattle.verification.specs.declared.judging.Situation.{Situation}
 use Rattle.witnesses.specs.Table.{Case, EachReached, AllReached, unjudged}
+use Rattle.store.specs.Slots.{storeLength}
 
 pub join : (t u : List (List Case)) → AllReached t → AllReached u → AllReached (t ++ u)
 join [] u w v = v
@@ -23,7 +24,7 @@ join (g ∷ gs) u (e, w) v = (e, join gs u w v)
 
 -- a store of the right length that is not bad
 pub record Open (store : List ℕ) : Type 0 where
-  pub size : eqb (length store) 13568 ≡ true
+  pub size : eqb (length store) storeLength ≡ true
   pub good : validStore store ≡ true
 
 abbrev pub Allowed : Situation → Type 0

@@ -24,7 +24,8 @@ use Rattle.verification.specs.Order.{situation, question, unasked, decision, un
 use Rattle.verification.specs.declared.judging.Situation.{Situation}
 use Rattle.verification.specs.declared.operations.Decision.{Decision}
 use Rattle.verification.specs.declared.operations.Prepared.{Prepared}
-use Rattle.witnesses.specs.Inputs.{eight, anchor, anchor-id, pass, pass-id, everywhere, stored, empty, marked, chains, taken, gone-issuer, ticket-issuer, other-issuer, short-issuer, bay-issuer, full, named, carrying, message, at}
+use Rattle.witnesses.specs.Inputs.{anchor, anchor-id, pass, pass-id, everywhere, stored, empty, marked, chains, taken, gone-issuer, ticket-issuer, other-issuer, short-issuer, bay-issuer, full, named, carrying, message, at}
+use Rattle.sample_stores.specs.Stores.{eight}
 
 -- an operation's arguments, and what it answers
 pub data Case : Type 0 where

@@ -28,7 +28,8 @@ use Rattle.withdrawal.specs.Computed.{fallsWith}
 use Rattle.withdrawal.specs.Order as order
 use Rattle.withdrawal.proofs.Asked.{asked-at, held-still, page-asked}
 use Rattle.withdrawal.proofs.Fallen.{slots-affected}
-use Rattle.worked_numbers.specs.Example.{eight, shown}
+use Rattle.sample_stores.specs.Stores.{eight}
+use Rattle.worked_numbers.specs.Example.{shown}
 use Rattle.worked_numbers.proofs.Images.{written, shown-written, written-octets}
 
 long : length written ≡ storeLength

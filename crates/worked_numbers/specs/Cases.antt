@@ -11,7 +11,8 @@ use Rattle.octets.specs.Durations.{durationAt}
 use Rattle.octets.specs.Coordinates.{latitudeAt}
 use Rattle.store.specs.Slots.{slotCount}
 use Rattle.withdrawal.specs.Order.{written, page}
-use Rattle.worked_numbers.specs.Example.{eight, shown}
+use Rattle.sample_stores.specs.Stores.{eight}
+use Rattle.worked_numbers.specs.Example.{shown}
 
 -- octets, and the value with the number of octets read, or the refusal
 pub data Case : Type 0 where

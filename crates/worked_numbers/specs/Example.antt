@@ -1,18 +1,15 @@
 -- The store of "The page program" of document 01: six certificates, all held, with permission 36 alone, no region, key and parity zero.
-use Prim.Native.Nat.{ℕ, _-_, _*_}
+use Prim.Native.Nat.{ℕ, _-_}
 use mathlib.Core.List.{List, [], _∷_, _++_}
 use lib.ListN.{length, replicate}
 use Rattle.octets.specs.Kinds.{TICKET, AUTHORITY, ROOT}
 use Rattle.geo.specs.Area.{unused}
-use Rattle.records.specs.Layout.{ID, NAME, KEY, RECTANGLES, PERMISSIONS, slotLength}
-use Rattle.records.specs.Records.{imageOf}
+use Rattle.records.specs.Layout.{NAME, KEY, RECTANGLES, PERMISSIONS}
 use Rattle.records.specs.declared.Record.{Record}
-use Rattle.store.specs.Slots.{slotCount, HELD}
+use Rattle.store.specs.Slots.{HELD}
+use Rattle.sample_stores.specs.Stores.{eight, storeOf}
 
 -- an id here is an octet eight times; a root has issuer 0
-abbrev pub eight : ℕ → List ℕ
-eight octet = replicate (ID .count) octet
-
 abbrev pub held : ℕ → ℕ → ℕ → ℕ → ℕ → List ℕ → Record
 held octet kind issuer start end name =
     record {
@@ -41,13 +38,6 @@ certificates =
     ∷ held 0x06 TICKET 0x05 200 300 []
     ∷ []
 
-abbrev pub images : List Record → List ℕ
-images [] = []
-images (r ∷ rs) = imageOf r ++ images rs
-
 -- slots 0 to 5; the others are empty
-abbrev pub empty : List ℕ
-empty = replicate ((slotCount - length certificates) * slotLength) 0
-
 unfoldable pub shown : List ℕ
-shown = images certificates ++ empty
+shown = storeOf certificates

@@ -11,16 +11,16 @@ use Rattle.verification.proofs.operations.decision_for.Statement.{state
 use Rattle.verification.proofs.operations.decision_for.Tie as tie
 
 -- the test of the certificate's verdict
-unverified : (kind certified : ℕ) → (eqb kind 2 && not (eqb certified 1)) ≡ true → (not (eqb kind 2) || eqb certified 1) ≡ false
-unverified kind certified e = by (eqb kind 2) (eqb certified 1) e
+unverified : (form certified : ℕ) → (eqb form 2 && not (eqb certified 1)) ≡ true → (not (eqb form 2) || eqb certified 1) ≡ false
+unverified form certified e = by (eqb form 2) (eqb certified 1) e
   where
     by : (a b : Bool) → (a && not b) ≡ true → (not a || b) ≡ false
     by true true e = sym e
     by true false e = refl
     by false b e = absurd (never e)
 
-verified : (kind certified : ℕ) → (eqb kind 2 && not (eqb certified 1)) ≡ false → (not (eqb kind 2) || eqb certified 1) ≡ true
-verified kind certified e = by (eqb kind 2) (eqb certified 1) e
+verified : (form certified : ℕ) → (eqb form 2 && not (eqb certified 1)) ≡ false → (not (eqb form 2) || eqb certified 1) ≡ true
+verified form certified e = by (eqb form 2) (eqb certified 1) e
   where
     by : (a b : Bool) → (a && not b) ≡ false → (not a || b) ≡ true
     by true true e = refl
