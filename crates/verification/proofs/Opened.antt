@@ -7,18 +7,17 @@ use lib.ListN.{length}
 use lib.Dec.{eqb, leb}
 use native.Mathlib.Omega.{arith}
 use borrow.Author.Tests.{eqb-true, ne-eqb}
-use Rattle.order.specs.Steps.{Answer, gives, refused, onward, Steps, done, need, take, run, Named, Numbered}
+use Rattle.order.specs.Steps.{Answer, gives, refused, onward, Steps, done, need, take, run, Named}
 use Rattle.order.proofs.Steps.{passes, fails, takes, halts, run-named, run-follow, gives-exactly, gives-refused}
 use Rattle.octets.specs.Reading.{got, refused as unread}
 use Rattle.message.specs.Messages.{Message, wholeMessage}
 use Rattle.message.specs.Parts.{messageParts}
 use Rattle.message.specs.declared.messages.MessageParts.{MessageParts}
-use Rattle.message.proofs.Forward.{message-forward}
 use Rattle.records.specs.declared.Record.{Record}
 use Rattle.store.specs.Slots.{storeLength}
 use Rattle.validity.specs.Valid.{validStore}
 use Rattle.chain.specs.Stored.{answered}
-use Rattle.chain.proofs.Answers.{read-named, read-given}
+use Rattle.chain.proofs.Answers.{read-given}
 use Rattle.signing.specs.Times.{longestAge, inTime}
 use Rattle.signing.specs.Places.{inRange}
 use Rattle.signing.specs.Signers.{carries, signed}
@@ -134,12 +133,6 @@ module _ (store octets : List ℕ) (x : Situation) where
 
   signer-named : (m : Message) → Named (run (signed store octets m (ownPosition x)))
   signer-named m = run-named (signed store octets m (ownPosition x)) (signed-numbered store octets m (ownPosition x))
-
-  pub judging-numbered : Numbered (judging store octets x)
-  judging-numbered = (
-    read-named (wholeMessage octets) (message-forward octets),
-    λ m. (signer-named m, λ r. tt),
-  )
 
   prepared-by : (a : Answer Passed) → run (judging store octets x) ≡ a → preparation store octets x ≡ preparedOf (onward a (λ p. gives (questionsFor store p)))
   unfolding preparation run

@@ -5,7 +5,7 @@ use mathlib.Core.Bool.{true, false, not}
 use mathlib.Core.Option.{Option, some}
 use mathlib.Core.List.{List}
 use lib.ListN.{replicate}
-use Rattle.order.specs.Steps.{Answer, gives, refused, done, need, take, run, firstOf, Well, well}
+use Rattle.order.specs.Steps.{Answer, gives, refused, done, take, run, firstOf, Well, well}
 use Rattle.order.proofs.Steps.{passes, fails, takes}
 use Rattle.octets.specs.Items.{itemsFrom}
 use Rattle.octets.specs.Numbers.{bigEndianOn, leadingOnes, octetAt, unsignedAt, intxAt}
@@ -39,9 +39,9 @@ use Rattle.message.specs.Bodies.{payloadAt, trailerIn, trailerAt}
 use Rattle.message.specs.Messages.{Message, wholeMessage}
 use Rattle.bitfields.specs.Field.{number, digitsAt, field, octets, withDigits}
 use Rattle.bitfields.specs.Runs.{fieldsOf}
-use Rattle.records.specs.Records.{regionOf, permissionsOf, scopeOf, recordOf, imageOf, itemsOf}
+use Rattle.records.specs.Records.{regionOf, permissionsOf, scopeOf, recordOf, itemsOf}
 use Rattle.records.specs.declared.Record.{Record}
-use Rattle.store.specs.Slots.{slotOf, stateAt, withdrawnAt, idAt, issuerAt}
+use Rattle.store.specs.Slots.{slotOf, stateAt, idAt, issuerAt}
 use Rattle.store.specs.Search.{lowestFrom, find}
 use Rattle.chain.specs.Walk.{walk}
 use Rattle.chain.specs.Stored.{answered, subjectAt, issuerIn}

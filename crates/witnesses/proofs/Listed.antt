@@ -1,6 +1,6 @@
 -- What list and withdraw answer. Assumes nothing.
 use Prim.Native.Nat.{ℕ}
-use mathlib.Core.Path.{_≡_, refl, sym, ap, subst, _∙_}
+use mathlib.Core.Path.{_≡_, refl, sym, ap, _∙_}
 use mathlib.Core.Bool.{true}
 use mathlib.Core.Option.{some}
 use mathlib.Core.List.{List, [], _∷_}
@@ -10,12 +10,10 @@ use lib.ListN.{length, replicate}
 use Rattle.order.specs.Steps.{Answer, gives, refused, run, firstOf}
 use Rattle.geo.specs.Tests.{someOf, eachOf}
 use Rattle.geo.specs.Area.{insideOf}
-use Rattle.bitfields.specs.Field.{number, digitsAt, field, Octets, octets, withDigits}
+use Rattle.bitfields.specs.Field.{number, digitsAt, field, octets, withDigits}
 use Rattle.bitfields.specs.Runs.{fieldsOf}
-use Rattle.bitfields.proofs.Octets.{octets-join, octets-zeros}
-use Rattle.records.specs.Records.{regionOf, permissionsOf, scopeOf, imageOf, itemsOf}
+use Rattle.records.specs.Records.{regionOf, permissionsOf, scopeOf, itemsOf}
 use Rattle.records.specs.declared.Record.{Record}
-use Rattle.records.proofs.Laws.{laws}
 use Rattle.store.specs.Slots.{stateAt, filledAt, idAt, issuerAt, slotCount}
 use Rattle.store.specs.Search.{lowestFrom, find}
 use Rattle.validity.specs.Each.{eachBelow}
@@ -30,13 +28,13 @@ use Rattle.withdrawal.specs.Computed.{heldAt, fallsWith}
 use Rattle.withdrawal.specs.Order as order
 use Rattle.withdrawal.proofs.Asked.{asked-unknown, asked-at, page-asked, page-refused, withdrawal-asked}
 use Rattle.withdrawal.proofs.Fallen.{slots-affected}
-use Rattle.witnesses.specs.Inputs.{certificates, empty, marked, chains}
+use Rattle.witnesses.specs.Inputs.{empty, marked}
 use Rattle.witnesses.specs.Table.{EachReached, AllReached, unlisted, listing}
 use Rattle.witnesses.proofs.Opened.{Open}
 use Rattle.witnesses.proofs.Empty.{empty-open, empty-finds}
 use Rattle.witnesses.proofs.Walked.{chained-open, on-chains}
-use Rattle.witnesses.proofs.Images.{chained, chains-are, chained-octets}
-use Rattle.sample_stores.specs.Stores.{eight, images}
+use Rattle.witnesses.proofs.Images.{chained, chained-octets}
+use Rattle.sample_stores.specs.Stores.{eight}
 use Rattle.records.proofs.Numbers.{digitsPut, runPut, itemsPut, imagePut}
 use Rattle.store.specs.Withdrawn.{withdrawnIn}
 

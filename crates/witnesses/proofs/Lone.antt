@@ -8,7 +8,7 @@ use mathlib.Core.List.{List, [], _∷_, _++_}
 use native.Mathlib.Omega.{arith}
 use borrow.Author.Tests.{eq-eqb, eqb-true}
 use lib.Dec.{eqb}
-use lib.ListN.{length, replicate}
+use lib.ListN.{length}
 use Rattle.geo.proofs.Bools.{never}
 use Rattle.bitfields.specs.Field.{field}
 use Rattle.store.specs.Slots.{slotOf, withSlot, EMPTY, stateAt, filledAt, idAt, storeLength}

@@ -5,8 +5,18 @@ use std::process::Command;
 /// 4 KiB (document 02, request 3).
 const BUDGET: usize = 4_096;
 
-const OPERATIONS: [&str; 9] = [
-    "read", "id", "install", "admit", "list", "withdraw", "prepare", "decide", "page",
+/// What each operation was measured to take when this was last changed, and 64
+/// octets more: a change that needs more room says so here.
+const LIMITS: [(&str, usize); 9] = [
+    ("read", 1_696 + 64),
+    ("id", 1_023 + 64),
+    ("install", 2_639 + 64),
+    ("admit", 2_639 + 64),
+    ("list", 1_431 + 64),
+    ("withdraw", 1_247 + 64),
+    ("prepare", 3_207 + 64),
+    ("decide", 3_031 + 64),
+    ("page", 1_959 + 64),
 ];
 
 fn printed() -> String {
@@ -32,9 +42,13 @@ fn most(text: &str, operation: &str) -> usize {
 #[cfg_attr(debug_assertions, ignore = "measured with --release")]
 fn operations_stay_within_the_budget() {
     let text = printed();
-    for operation in OPERATIONS {
+    for (operation, limit) in LIMITS {
         let octets = most(&text, operation);
         assert!(octets < BUDGET, "{operation}: {octets} octets");
+        assert!(
+            octets <= limit,
+            "{operation}: {octets} octets, over {limit}"
+        );
         let line = format!("{operation}: {octets} octets, under 4,096: yes");
         assert!(text.lines().any(|found| found == line), "{line}");
     }

@@ -1,7 +1,6 @@
 -- Test by test. Assumes nothing.
 use mathlib.Core.Path.{_≡_, sym, ap, _∙_}
 use mathlib.Core.Bool.{true}
-use Prim.Native.Nat.{ℕ}
 use borrow.Author.Tests.{eq-eqb, ne-eqb, le-leb, lt-leb}
 use lib.ListN.{length}
 use lib.Dec.{eqb, leb}
@@ -9,7 +8,7 @@ use mir.Facts.{toZ-ofZ}
 use mir.Syntax.{w32}
 use mir.Val.{SFits}
 use Rattle.geo.proofs.Bools.{of-not}
-use Rattle.order.specs.Steps.{gives, refused}
+use Rattle.order.specs.Steps.{gives}
 use Rattle.octets.specs.Reading.{got}
 use Rattle.octets.proofs.Laws.{was}
 use Rattle.octets.proofs.Kept.{kept-got, kept-refused}
