@@ -1,9 +1,16 @@
 // The program `page` (document 01, "The page program"): it prints the page for what standard input holds. What it prints for
 // its input is proved of `page_text::page`. Reading and writing are the C library's.
 ghost use mathlib.Core.Path.{_≡_};
+ghost use Prim.Native.Nat.{_+_};
 ghost use lib.ListN.{length};
+ghost use Rattle.page_text.specs.Page.{inputLength};
+ghost use Rattle.page_text.specs.Sizes.{pageLength};
 ghost use Rattle.page.specs.Inputs.{Inside};
 use page_text::page;
+use page_text::sizes::INPUT_LENGTH;
+use page_text::sizes::PAGE_LENGTH;
+
+const INPUT_ROOM: usize = INPUT_LENGTH + 1;
 
 // How many octets were read up to the end of the input or of the room for it, or that a read failed.
 enum Input {
@@ -42,16 +49,16 @@ fn read_input(buffer: &mut [u8]) -> Input
 
 // Room for one octet more than an input has, so that a longer one is seen. The length is given as a fact, so that no proof
 // computes the array.
-fn room_for_input() -> [u8; 13581]
-    ensures { λ r. ⌜ 13581 ≡ length r ⌝ }
+fn room_for_input() -> [u8; INPUT_ROOM]
+    ensures { λ r. ⌜ inputLength + 1 ≡ length r ⌝ }
 {
-    [0; 13581]
+    [0; INPUT_ROOM]
 }
 
-fn room_for_text() -> [u8; 6144]
-    ensures { λ r. ⌜ 6144 ≡ length r ⌝ }
+fn room_for_text() -> [u8; PAGE_LENGTH]
+    ensures { λ r. ⌜ pageLength ≡ length r ⌝ }
 {
-    [0; 6144]
+    [0; PAGE_LENGTH]
 }
 
 // Prints the page for an input.

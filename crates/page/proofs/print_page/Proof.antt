@@ -4,6 +4,7 @@ use lib.ListN.{length}
 use lib.Seq.{length-take-le}
 use Rattle.page_text.proofs.Pages.{call-inside}
 use borrow.Author.Needs.{needs}
+use Rattle.page_text.specs.Sizes.{pageLength}
 use Rattle.page.proofs.print_page.Statement.{statement}
 use Rattle.page.proofs.print_page.Tie as tie
 
@@ -21,14 +22,14 @@ cast-n c = search needs
 
 array-share-prefix-text : tie.Need-array-share-prefix-text
 array-share-prefix-text c =
-    let long : length (c .before .page .last .1 .0) ≡ 6144 = search needs in
-    let room : 6144 ≡ length (c .before .before .before .room-for-text .result) = search needs in
+    let long : length (c .before .page .last .1 .0) ≡ pageLength = search needs in
+    let room : pageLength ≡ length (c .before .before .before .room-for-text .result) = search needs in
     call-inside _ _ (c .before .page .ensures) (long ∙ room)
 
 slice-aggregate-write-all : tie.Need-slice-aggregate-write-all
 slice-aggregate-write-all c =
-    let long : length (c .before .before .page .last .1 .0) ≡ 6144 = search needs in
-    let room : 6144 ≡ length (c .before .before .before .before .room-for-text .result) = search needs in
+    let long : length (c .before .before .page .last .1 .0) ≡ pageLength = search needs in
+    let room : pageLength ≡ length (c .before .before .before .before .room-for-text .result) = search needs in
     sym (length-take-le _ _ (call-inside _ _ (c .before .before .page .ensures) (long ∙ room)))
 
 write-all-requires : tie.Need-write-all-requires
