@@ -15,7 +15,7 @@ use Rattle.geo.specs.Area.{unused, insideOf}
 use Rattle.order.specs.Steps.{firstOf}
 use Rattle.bitfields.specs.Field.{number, field}
 use Rattle.scope.specs.Issued.{issuedNumber}
-use Rattle.records.specs.Layout.{ID, valuesOf, slotLength}
+use Rattle.records.specs.Layout.{ID, valuesOf, slotLength, STATE}
 use Rattle.records.specs.Ranges.{InRange, Edges, Sized}
 use Rattle.records.specs.Records.{imageOf, scopeOf, recordOf}
 use Rattle.records.specs.declared.Record.{Record}
@@ -145,7 +145,7 @@ slot-full i h = let e : 0 + i ≡ i = omega arith in slot-is 64 0 i (replicate 0
 
 state-full : (i : ℕ) → i < 64 → stateAt full i ≡ 1
 unfolding stateAt
-state-full i h = ap (λ (t : List ℕ). field t 128 2) (slot-full i h) ∙ image-state (authority i) (in-range i h) (sized i h)
+state-full i h = ap (λ (t : List ℕ). field t (STATE .bit) (STATE .width)) (slot-full i h) ∙ image-state (authority i) (in-range i h) (sized i h)
 
 number-eight : (o : ℕ) → number (eight o) ≡ o * 0x0101010101010101
 unfolding number

@@ -22,7 +22,7 @@ use Rattle.witnesses.specs.Inputs.{empty, gone-issuer, ticket-issuer, ot
 use Rattle.witnesses.proofs.Opened.{Open}
 use Rattle.witnesses.proofs.Empty.{empty-open, empty-states}
 use Rattle.witnesses.proofs.Images.{gone, gone-image, ticket, ticket-image, unpermitted, unpermitted-image, short, short-image, bounded, bounded-image}
-use Rattle.records.specs.Layout.{slotLength}
+use Rattle.records.specs.Layout.{slotLength, STATE, ID}
 use Rattle.sample_stores.specs.Stores.{rest}
 
 abbrev pub lone : List ℕ → List ℕ
@@ -62,12 +62,12 @@ size = eqb-true _ _ (empty-open .size)
 empty-valid : Valid empty
 empty-valid = laws .valid-exactly empty .0 (empty-open .good)
 
--- 212 octets that keep the rules, whose state is not 0
+-- octets of a slot that keep the rules, whose state is not 0
 pub record Image (l : List ℕ) (id : ℕ) : Type 0 where
   pub long : length l ≡ slotLength
   pub good : goodSlot l ≡ true
-  pub filled : not (eqb (field l 128 2) EMPTY) ≡ true
-  pub has-id : field l 0 64 ≡ id
+  pub filled : not (eqb (field l (STATE .bit) (STATE .width)) EMPTY) ≡ true
+  pub has-id : field l (ID .bit) 64 ≡ id
 
 module _ (l : List ℕ) (id : ℕ) (h : Image l id) where
   here : slotOf (lone l) 0 ≡ l
@@ -75,18 +75,18 @@ module _ (l : List ℕ) (id : ℕ) (h : Image l id) where
 
   here-filled : filledAt (lone l) 0 ≡ true
   unfolding stateAt
-  here-filled = ap (λ (t : List ℕ). not (eqb (field t 128 2) EMPTY)) here ∙ h .filled
+  here-filled = ap (λ (t : List ℕ). not (eqb (field t (STATE .bit) (STATE .width)) EMPTY)) here ∙ h .filled
 
   here-id : idAt (lone l) 0 ≡ id
   unfolding idAt
-  here-id = ap (λ (t : List ℕ). field t 0 64) here ∙ h .has-id
+  here-id = ap (λ (t : List ℕ). field t (ID .bit) 64) here ∙ h .has-id
 
   -- the others are empty
   there : (j : ℕ) → suc j < 64 → filledAt (lone l) (suc j) ≡ true → ⊥
   unfolding stateAt
   there j b f =
       let e : slotOf (lone l) (suc j) ≡ slotOf empty (suc j) = slot-other empty 0 l size (omega arith) (h .long) (suc j) b (λ e. omega arith) in
-      never (sym (ap (λ (t : List ℕ). not (eqb (field t 128 2) EMPTY)) e ∙ empty-states (suc j) b) ∙ f)
+      never (sym (ap (λ (t : List ℕ). not (eqb (field t (STATE .bit) (STATE .width)) EMPTY)) e ∙ empty-states (suc j) b) ∙ f)
 
   slots : (j : ℕ) → j < 64 → goodSlot (slotOf (lone l) j) ≡ true
   slots zero b = ap goodSlot here ∙ h .good
