@@ -1,3 +1,4 @@
 pub mod Images
 pub mod Shown
 pub mod Worked
+pub mod Measures
