@@ -14,7 +14,7 @@ use Rattle.chain.proofs.Walks.{walk-gives}
 use Rattle.chain.proofs.Stopped.{walk-stops}
 use borrow.Author.Tests.{ne-eqb}
 
-needs-pass : {R : Type 0} (cs : List Check) (s : Steps R) → Pass cs → run (needs cs s) ≡ run s
+pub needs-pass : {R : Type 0} (cs : List Check) (s : Steps R) → Pass cs → run (needs cs s) ≡ run s
 needs-pass [] s w = refl
 needs-pass (c ∷ cs) s (e, w) = passes e (c .code) (needs cs s) ∙ needs-pass cs s w
 

@@ -1,12 +1,14 @@
 -- The same over a store: what the functions of this crate cite. Assumes nothing.
-use mathlib.Core.Path.{_≡_, refl, sym, ap, _∙_}
-use mathlib.Core.Bool.{Bool}
+use mathlib.Core.Path.{_≡_, refl, sym, ap, subst, _∙_}
+use mathlib.Core.Bool.{Bool, true, false}
 use mathlib.Core.List.{List}
 use mathlib.Core.Option.{Option, none, some}
-use Prim.Native.Nat.{ℕ, _-_, _<_}
+use Prim.Native.Nat.{ℕ, zero, suc, _-_, _<_}
 use native.Mathlib.Nat.{suc-ne-zero}
-use Rattle.order.specs.Steps.{Answer, gives, refused, onward, done, take, run, needs, Coded, no-row, coded}
+use borrow.Author.Tests.{eq-eqb, ne-eqb, eqb-true, eqb-false}
+use Rattle.order.specs.Steps.{Answer, gives, refused, onward, Steps, done, stop, take, fork, run, needs, Coded, no-row, coded}
 use Rattle.order.proofs.Steps.{gives-exactly, refuses-exactly, gives-refused, run-follow, needs-to, needs-from, needs-refuse-first, all-pass, first-fails}
+use lib.Dec.{eqb}
 use Rattle.octets.specs.Refusals.{UNKNOWN, CHAIN-TOO-LONG}
 use Rattle.scope.specs.Issued.{issuedRows, issuedNumber}
 use Rattle.scope.proofs.Exactly.{issued-coded}
@@ -19,10 +21,10 @@ use Rattle.store.proofs.Found.{find-finds, found-again}
 use Rattle.chain.specs.declared.subjects.Subject.{Subject}
 use Rattle.chain.specs.declared.subjects.Place.{Place}
 use Rattle.chain.specs.declared.subjects.Place.the-variants.{Anywhere, At}
-use Rattle.chain.specs.Walk.{placeRows, ownRows, climb}
+use Rattle.chain.specs.Walk.{placeRows, ownRows, isRoot, climb}
 use Rattle.chain.specs.Chains.{Root}
 use Rattle.chain.specs.Stored.{slotOr, subjectOr, subjectAt, issuerIn, walkNumber}
-use Rattle.chain.specs.Computed.{ownNumber, linked, upward, walkedOn, Leads}
+use Rattle.chain.specs.Computed.{ownNumber, linked, upward, stepped, walkedOn, Leads}
 use Rattle.chain.proofs.Coding as coding
 
 place-coded : (p : Place) (s : Scope) → Coded (placeRows p s)
@@ -93,6 +95,10 @@ up-found l c j e = go (find l (c .issuer)) refl e
 pub led : (l : List ℕ) (n : ℕ) (a : Answer ℕ) (j : ℕ) → a ≡ gives j → Leads l n a → Leads l n (gives j)
 led l n a j e h = rw e at h
 
+given : (a : Answer ℕ) → onward a (λ j. gives j) ≡ a
+given (gives j) = refl
+given (refused k) = refl
+
 module _ (l : List ℕ) where
   module _ (gone : ℕ → Bool) (t : ℕ) (p : Place) where
     pub at-own : (n : ℕ) (c : Subject) → ¬ (ownNumber gone t p c ≡ 0) → ownNumber gone t p c ≡ walkNumber gone l t p n c
@@ -123,3 +129,55 @@ module _ (l : List ℕ) where
         let found = up-found l c j (sym u) in
         ((z, found .0, found .1), at-on n c j e r z (sym u))
     at-up n c (refused k) e r z u = (tt, at-stop n c k e r z (sym u))
+
+    -- what a step answers, test by test
+    pub step-own : (n : ℕ) (c : Subject) → ¬ (ownNumber gone t p c ≡ 0) → refused (ownNumber gone t p c) ≡ stepped gone l t p n c
+    unfolding ownNumber stepped
+    step-own n c z =
+        sym (refuses-exactly (needs (ownRows gone t p c) _) _ .1 (needs-refuse-first (ownRows gone t p c) _ _ (first-fails (ownRows gone t p c) _ z .0 refl)))
+
+    module _ (n : ℕ) (c : Subject) (own : ownNumber gone t p c ≡ 0) where
+      past-own : stepped gone l t p n c ≡ run (fork (isRoot c) (stop 0) (fork (eqb n 0) (stop CHAIN-TOO-LONG) (take (upward l c) (λ j. done j))))
+      unfolding ownNumber stepped
+      past-own = coding.needs-pass (ownRows gone t p c) _ (all-pass (ownRows gone t p c) (rows gone t p c) .0 own)
+
+      pub step-root : Root c → refused 0 ≡ stepped gone l t p n c
+      unfolding run
+      step-root r = sym (past-own ∙ rw (eq-eqb _ _ r))
+
+      pub step-last : ¬ Root c → n ≡ 0 → refused CHAIN-TOO-LONG ≡ stepped gone l t p n c
+      unfolding run
+      step-last r z = sym (past-own ∙ rw (ne-eqb _ _ r, eq-eqb n 0 z))
+
+      pub step-upward : ¬ Root c → ¬ (n ≡ 0) → upward l c ≡ stepped gone l t p n c
+      unfolding run
+      step-upward r z = sym (past-own ∙ rw (ne-eqb _ _ r, ne-eqb n 0 z) (given (upward l c)))
+
+    -- where a step leads, and that the walk from there is the walk
+    abbrev Onward : ℕ → Subject → Answer ℕ → Type 0
+    Onward n c a = Leads l n a × (walkedOn gone l t p n a ≡ walkNumber gone l t p n c)
+
+    step-onward : (n : ℕ) (c : Subject) → Onward n c (stepped gone l t p n c)
+    step-onward n c = by-own (ownNumber gone t p c) refl
+      where
+        by-count : (m : ℕ) → n ≡ m → ownNumber gone t p c ≡ 0 → ¬ Root c → Onward n c (stepped gone l t p n c)
+        by-count zero q e r = subst (Onward n c) (step-last n c e r q) (tt, at-last n c e r q)
+        by-count (suc m) q e r =
+            let z : ¬ (n ≡ 0) = λ x. suc-ne-zero m (sym q ∙ x) in
+            subst (Onward n c) (step-upward n c e r z) (at-up n c (upward l c) e r z refl)
+
+        by-kind : (b : Bool) → isRoot c ≡ b → ownNumber gone t p c ≡ 0 → Onward n c (stepped gone l t p n c)
+        by-kind true q e = let r : Root c = eqb-true _ _ q in subst (Onward n c) (step-root n c e r) (tt, at-root n c e r)
+        by-kind false q e = by-count n refl e (eqb-false _ _ q)
+
+        by-own : (k : ℕ) → ownNumber gone t p c ≡ k → Onward n c (stepped gone l t p n c)
+        by-own zero e = by-kind (isRoot c) refl e
+        by-own (suc k) e =
+            let z : ¬ (ownNumber gone t p c ≡ 0) = λ x. suc-ne-zero k (sym e ∙ x) in
+            subst (Onward n c) (step-own n c z) (tt, at-own n c z)
+
+    pub step-led : (n : ℕ) (c : Subject) (a : Answer ℕ) → a ≡ stepped gone l t p n c → Leads l n a
+    step-led n c a e = subst (Leads l n) (sym e) (step-onward n c .0)
+
+    pub step-walked : (n : ℕ) (c : Subject) (a : Answer ℕ) → a ≡ stepped gone l t p n c → walkedOn gone l t p n a ≡ walkNumber gone l t p n c
+    step-walked n c a e = ap (walkedOn gone l t p n) e ∙ step-onward n c .1

@@ -5,8 +5,8 @@ use mathlib.Core.List.{List}
 use mathlib.Core.Option.{some}
 use Prim.Native.Nat.{ℕ, _-_, _<_}
 use lib.Dec.{eqb}
-use Rattle.order.specs.Steps.{Answer, gives, refused, onward, done, run, needs, firstOf}
-use Rattle.octets.specs.Refusals.{UNKNOWN}
+use Rattle.order.specs.Steps.{Answer, gives, refused, onward, done, stop, take, fork, run, needs, firstOf}
+use Rattle.octets.specs.Refusals.{UNKNOWN, CHAIN-TOO-LONG}
 use Rattle.scope.specs.Issued.{issuedRows}
 use Rattle.scope.specs.declared.Scope.{Scope}
 use Rattle.records.specs.Records.{scopeOf}
@@ -17,7 +17,7 @@ use Rattle.chain.specs.declared.subjects.Subject.{Subject}
 use Rattle.chain.specs.declared.subjects.Place.{Place}
 use Rattle.chain.specs.declared.steps.Up.{Up}
 use Rattle.chain.specs.declared.steps.Up.the-variants.{On, Stop}
-use Rattle.chain.specs.Walk.{placeRows, ownRows}
+use Rattle.chain.specs.Walk.{placeRows, ownRows, isRoot}
 use Rattle.chain.specs.Stored.{subjectAt, slotOr, walkNumber}
 
 -- no slot has this number
@@ -45,6 +45,11 @@ linked l subject j = run (needs (issuedRows subject (scopeOf (slotOf l j))) (don
 -- the slot of the issuer: 7, 10, 11, 12, 13
 unfoldable pub upward : List ℕ → Subject → Answer ℕ
 upward l c = onward (slotOr UNKNOWN (find l (c .issuer))) (linked l (c .scope))
+
+-- where a walk goes from a certificate that n may follow: to the slot of its issuer; or the number by which it ends there, 0 at a root
+unfoldable pub stepped : (ℕ → Bool) → List ℕ → ℕ → Place → ℕ → Subject → Answer ℕ
+stepped gone l t p n c =
+    run (needs (ownRows gone t p c) (fork (isRoot c) (stop 0) (fork (eqb n 0) (stop CHAIN-TOO-LONG) (take (upward l c) (λ j. done j)))))
 
 -- what a walk answers after a step from a certificate that n may follow: the number by which it ended, or the walk from the issuer
 abbrev pub walkedOn : (ℕ → Bool) → List ℕ → ℕ → Place → ℕ → Answer ℕ → ℕ
