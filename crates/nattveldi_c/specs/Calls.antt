@@ -17,7 +17,8 @@ use Rattle.verification.specs.declared.judging.Situation.{Situation}
 use Rattle.verification.specs.declared.operations.Prepared.{Prepared}
 use Rattle.verification.specs.declared.operations.Decision.{Decision}
 use Rattle.answer_words.specs.Answers.{withQuestions, withDecision, questionsLength, decisionLength}
-use Rattle.withdrawal.specs.Order.{Listing, page}
+use Rattle.slot_lists.specs.Listings.{Listing}
+use Rattle.withdrawal.specs.Order.{page}
 
 abbrev pub Call : Type 0
 Call = ℕ × List ℕ

@@ -15,10 +15,11 @@ use Rattle.octets.specs.Refusals.{ACCEPTED, BAD-CALL}
 use Rattle.text.specs.Text.{Written}
 use Rattle.records.specs.Layout.{ID}
 use Rattle.store.specs.Slots.{slotCount}
-use Rattle.withdrawal.specs.SlotSets.{slotsFrom}
-use Rattle.withdrawal.specs.Order.{Listing, after, falls, affected, drawing, listedFor, page}
+use Rattle.slot_lists.specs.SlotSets.{slotsFrom}
+use Rattle.slot_lists.specs.Listings.{Listing}
+use Rattle.withdrawal.specs.Order.{after, falls, affected, drawing, listedFor, page}
 use Rattle.withdrawal.specs.Demand.{named}
-use Rattle.withdrawal.proofs.SlotSets.{slots-fit}
+use Rattle.slot_lists.proofs.SlotSets.{slots-fit}
 use Rattle.page_text.specs.Lines.{linesOf, headOf, countOf, refusedOf}
 use Rattle.page_text.specs.Page.{inputLength, storeIn, idIn, secondIn, listed, pageOf, pageText, pageCall}
 use Rattle.page_text.specs.Sizes.{pageLength}

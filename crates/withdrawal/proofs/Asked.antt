@@ -21,7 +21,8 @@ use Rattle.validity.specs.Valid.{validStore}
 use Rattle.chain.specs.Stored.{slotOr}
 use Rattle.chain.proofs.Answers.{slot-given}
 use Rattle.store.specs.Withdrawn.{withdrawnIn}
-use Rattle.withdrawal.specs.Order.{asking, asked, withdrawnFrom, withdrawal, refusedList, listedFor, page}
+use Rattle.slot_lists.specs.Listings.{refusedList}
+use Rattle.withdrawal.specs.Order.{asking, asked, withdrawnFrom, withdrawal, listedFor, page}
 use Rattle.withdrawal.specs.Computed.{heldAt}
 
 -- what is known of a certificate that may be asked for

@@ -4,10 +4,9 @@ use mathlib.Core.Logic.{_↔_}
 use mathlib.Core.Bool.{Bool, true, false, not, _&&_, false≢true}
 use mathlib.Core.List.{List, [], List·Memᴰ}
 use mathlib.Core.Option.{some}
-use Prim.Native.Nat.{ℕ, _+_, _-_, _≤_, _<_, zero-le}
+use Prim.Native.Nat.{ℕ, _≤_, _<_, zero-le}
 use native.Mathlib.Omega.{arith}
-use lib.ListN.{length, getD, take, drop, length-append, length-drop}
-use lib.Seq.{take-append-seam, getD-append-add, getD-drop}
+use lib.ListN.{length, getD, take}
 use borrow.Author.Tests.{ne-eqb, not-true}
 use Rattle.order.specs.Steps.{gives}
 use Rattle.bitfields.specs.Field.{number}
@@ -20,9 +19,11 @@ use Rattle.store.proofs.Withdrawn.{bit-kept, state-gone, long-kept}
 use Rattle.validity.proofs.Laws as validity
 use Rattle.chain.specs.Stored.{stands}
 use Rattle.octets.specs.Buffers.{withFront}
-use Rattle.withdrawal.specs.Order.{asked, after, falls, affected, withdrawal, Listing, written, listedFor, page}
+use Rattle.slot_lists.specs.Listings.{Listing, written}
+use Rattle.slot_lists.proofs.SlotSets.{mem-to, mem-from, slots-sorted, slots-fit, slots-none}
+use Rattle.slot_lists.proofs.Listings.{front-named, front-long, front-behind}
+use Rattle.withdrawal.specs.Order.{asked, after, falls, affected, withdrawal, listedFor, page}
 use Rattle.withdrawal.specs.Demand.{Stored, Stands, Demand3, Asked, Demand, Kept3}
-use Rattle.withdrawal.proofs.SlotSets.{mem-to, mem-from, slots-sorted, slots-fit, slots-none}
 use Rattle.withdrawal.proofs.Frame.{stands-filled, fewer-stand, stood}
 use Rattle.withdrawal.proofs.Asked.{held-still, asked-at, page-asked, withdrawal-asked}
 
@@ -56,20 +57,6 @@ affected-exactly s s' t i = (
       (record { slot = r .1; filled = stands-filled s t i (k .0) }, k .0, λ e. false≢true (sym (not-true _ (k .1)) ∙ e))),
   (λ r. mem-from (falls s s' t) 0 64 i zero-le (r .0 .slot) (and-join (stands s t i) _ (r .1) (true-not _ (r .2)))),
 )
-
--- the front of a list that was written
-module _ (a l : List ℕ) (fits : length a ≤ length l) where
-  front-named : take (length a) (withFront a l) ≡ a
-  front-named = take-append-seam a (drop (length a) l)
-
-  front-long : length (withFront a l) ≡ length l
-  front-long = omega (arith, length-append a (drop (length a) l), length-drop (length a) l)
-
-  front-behind : (k : ℕ) → length a ≤ k → getD (withFront a l) k 0 ≡ getD l k 0
-  front-behind k h =
-      let e : length a + (k - length a) ≡ k = omega arith in
-      ap (λ (m : ℕ). getD (withFront a l) m 0) (sym e) ∙ getD-append-add a (drop (length a) l) (k - length a) 0
-      ∙ getD-drop (length a) l (k - length a) 0 ∙ ap (λ (m : ℕ). getD l m 0) e
 
 module _ (s : List ℕ) (c t : ℕ) (id l : List ℕ) (asks : Asked s c id l) where
   size : length s ≡ storeLength

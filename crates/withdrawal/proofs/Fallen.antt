@@ -5,7 +5,6 @@ use mathlib.Core.List.{List}
 use mathlib.Core.Option.{some}
 use Prim.Native.Nat.{ℕ, _<_}
 use native.Mathlib.Omega.{arith}
-use lib.ListN.{length}
 use lib.Count.{ones}
 use borrow.Author.Tests.{ne-eqb}
 use Rattle.order.specs.Steps.{gives}
@@ -20,12 +19,14 @@ use Rattle.validity.proofs.Laws as validity
 use Rattle.chain.specs.declared.subjects.Place.the-variants.{Anywhere}
 use Rattle.chain.specs.Stored.{subjectAt, walkNumber, followers}
 use Rattle.chain.specs.Computed.{noSlot, alsoAt}
-use Rattle.withdrawal.specs.SlotSets.{slotsFrom}
 use Rattle.octets.specs.Buffers.{withFront}
-use Rattle.withdrawal.specs.Computed.{bit, bitsFrom, slotsIn, fallsWith}
-use Rattle.withdrawal.specs.Order.{after, falls, affected, Listing, written, listedFor}
-use Rattle.withdrawal.proofs.SlotSets.{ones-bits, slots-same}
-use Rattle.withdrawal.proofs.Writes.{slots-in}
+use Rattle.slot_lists.specs.SlotSets.{slotsFrom}
+use Rattle.slot_lists.specs.Listings.{Listing, written}
+use Rattle.slot_lists.specs.Computed.{bit, bitsFrom, slotsIn}
+use Rattle.slot_lists.proofs.SlotSets.{slots-same}
+use Rattle.slot_lists.proofs.Listings.{by-set}
+use Rattle.withdrawal.specs.Computed.{fallsWith}
+use Rattle.withdrawal.specs.Order.{after, falls, affected, listedFor}
 use Rattle.withdrawal.proofs.Frame.{falls-with}
 
 pub valid-of : (s : List ℕ) → validStore s ≡ true → Valid s
@@ -60,11 +61,7 @@ module _ (s : List ℕ) (c t : ℕ) (are : Octets s) (good : validStore s ≡ tr
   slots-affected =
       slots-same (fallsWith s t c) (falls s (after s c) t) 0 64 (λ i l u. falls-with s c are (valid-of s good .size) h f t i (omega arith))
 
-  pub by-set : (l : List ℕ) (x : ℕ) (o : List ℕ) → x ≡ bitsFrom (fallsWith s t c) 0 64 → o ≡ withFront (slotsIn x 0 64) l
+  pub fallen-set : (l : List ℕ) (x : ℕ) (o : List ℕ) → x ≡ bitsFrom (fallsWith s t c) 0 64 → o ≡ withFront (slotsIn x 0 64) l
       → _≡_ {A = Listing} (record { number = 0; n = ones x; list = o; store = s }) (listedFor s t l (gives c))
   unfolding listedFor
-  by-set l x o e q =
-      let A : List ℕ = slotsFrom (fallsWith s t c) 0 64 in
-      let m : ones x ≡ length A = ap ones e ∙ ones-bits (fallsWith s t c) 0 64 in
-      let w : o ≡ withFront A l = q ∙ ap (λ (r : List ℕ). withFront r l) (ap (λ (n : ℕ). slotsIn n 0 64) e ∙ slots-in (fallsWith s t c) 0 64) in
-      (λ d. record { number = 0; n = m d; list = w d; store = s }) ∙ ap (λ (r : List ℕ). written r l s) slots-affected
+  fallen-set l x o e q = by-set (fallsWith s t c) s l x o e q ∙ ap (λ (r : List ℕ). written r l s) slots-affected

@@ -1,5 +1,3 @@
-pub mod SlotSets
-pub mod Writes
 pub mod Frame
 pub mod Asked
 pub mod Fallen

@@ -1,8 +1,7 @@
 -- What the code answers on the way; no contract of an operation rests on it.
-use mathlib.Core.Bool.{Bool, not, cond, _&&_}
-use mathlib.Core.List.{List, [], _∷_}
-use Prim.Native.Nat.{ℕ, zero, suc, _+_, _*_, _/_, _%_}
-use lib.Dec.{eqb}
+use mathlib.Core.Bool.{Bool, not, _&&_}
+use mathlib.Core.List.{List}
+use Prim.Native.Nat.{ℕ}
 use Rattle.order.specs.Steps.{Answer, gives, refused, pick}
 use Rattle.octets.specs.Refusals.{WITHDRAWN}
 use Rattle.store.specs.Slots.{idAt}
@@ -23,18 +22,3 @@ heldAt store slot = pick (withdrawnIn store (idAt store slot)) (refused WITHDRAW
 -- what falls, read off the old store alone
 unfoldable pub fallsWith : List ℕ → ℕ → ℕ → ℕ → Bool
 fallsWith store t c i = standsBy (alsoAt store noSlot) store t i && not (standsBy (alsoAt store c) store t i)
-
--- ---- a set of slots as a number
-
-unfoldable pub bit : Bool → ℕ
-bit b = cond b 1 0
-
--- the same set as a number: bit j is slot i + j
-unfoldable pub bitsFrom : (ℕ → Bool) → ℕ → ℕ → ℕ
-bitsFrom p i zero = 0
-bitsFrom p i (suc k) = bitsFrom p (suc i) k * 2 + bit (p i)
-
--- the slots of such a number r, whose lowest bit is slot i
-unfoldable pub slotsIn : ℕ → ℕ → ℕ → List ℕ
-slotsIn r i zero = []
-slotsIn r i (suc k) = cond (eqb (r % 2) 1) (i ∷ slotsIn (r / 2) (suc i) k) (slotsIn (r / 2) (suc i) k)

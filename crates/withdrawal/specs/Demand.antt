@@ -4,13 +4,14 @@ use mathlib.Core.Logic.{_↔_}
 use mathlib.Core.Bool.{true}
 use mathlib.Core.List.{List, List·Memᴰ}
 use Prim.Native.Nat.{ℕ, _+_, _*_, _<_, _≤_}
-use lib.ListN.{length, getD, take}
+use lib.ListN.{length, getD}
 use Rattle.bitfields.specs.Field.{number, field, Octets}
 use Rattle.records.specs.Layout.{STATE, slotBits}
 use Rattle.store.specs.Slots.{slotCount, storeLength, HELD, GONE, stateAt, filledAt, idAt}
 use Rattle.validity.specs.Laws.{Valid}
 use Rattle.chain.specs.Stored.{stands}
-use Rattle.withdrawal.specs.Order.{Listing, page, withdrawal}
+use Rattle.slot_lists.specs.Listings.{Listing, named}
+use Rattle.withdrawal.specs.Order.{page, withdrawal}
 
 -- slot i holds a certificate
 pub record Stored (s : List ℕ) (i : ℕ) : Type 0 where
@@ -20,10 +21,6 @@ pub record Stored (s : List ℕ) (i : ℕ) : Type 0 where
 -- the certificate in slot i stands at the second t
 abbrev pub Stands : List ℕ → ℕ → ℕ → Type 0
 Stands s t i = stands s t i ≡ true
-
--- the page's list: its first n octets
-abbrev pub named : Listing → List ℕ
-named p = take (p .n) (p .list)
 
 -- s: the store that both get; c: the slot of the certificate; t: the second; l: the lent list; p: what list gives; w: the number that withdraw
 -- answers, and the store that it leaves

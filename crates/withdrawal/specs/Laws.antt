@@ -10,7 +10,8 @@ use Rattle.bitfields.specs.Field.{number, Octets}
 use Rattle.store.specs.Slots.{slotCount, filledAt, withdrawnAt, idAt}
 use Rattle.store.specs.Withdrawn.{withdrawnIn}
 use Rattle.validity.specs.Laws.{Valid}
-use Rattle.withdrawal.specs.Order.{asking, asked, drawing, withdrawal, refusedList, page}
+use Rattle.slot_lists.specs.Listings.{refusedList}
+use Rattle.withdrawal.specs.Order.{asking, asked, drawing, withdrawal, page}
 use Rattle.withdrawal.specs.Demand.{Demand}
 
 -- slot c holds the certificate that is asked for, and it is not withdrawn yet

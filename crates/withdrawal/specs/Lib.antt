@@ -1,4 +1,3 @@
-pub mod SlotSets
 pub mod Order
 pub mod Computed
 pub mod Demand

@@ -5,7 +5,6 @@ use Prim.Native.Nat.{ℕ}
 use lib.ListN.{length}
 use lib.Dec.{eqb, leb}
 use Rattle.order.specs.Steps.{Answer, gives, refused, Steps, done, need, take, run}
-use Rattle.octets.specs.Buffers.{withFront}
 use Rattle.octets.specs.Refusals.{ACCEPTED, BAD-CALL, BAD-STORE, UNKNOWN, WITHDRAWN}
 use Rattle.bitfields.specs.Field.{number}
 use Rattle.store.specs.Slots.{slotCount, storeLength, GONE}
@@ -14,8 +13,8 @@ use Rattle.store.specs.Laws.{withState}
 use Rattle.validity.specs.Valid.{validStore}
 use Rattle.chain.specs.Stored.{slotOr, stands}
 use Rattle.store.specs.Withdrawn.{withdrawnIn}
-use Rattle.withdrawal.specs.SlotSets.{slotsFrom}
-use Rattle.withdrawal.specs.declared.operations.Listed.{Listed}
+use Rattle.slot_lists.specs.SlotSets.{slotsFrom}
+use Rattle.slot_lists.specs.Listings.{Listing, refusedList, written}
 
 -- "1 (store length, id not 8 octets, ..), 2, 7, 8": what list and withdraw share; it gives the slot of the certificate
 abbrev pub asking : List ℕ → List ℕ → Steps ℕ
@@ -54,24 +53,6 @@ withdrawnFrom store (refused k) = (k, store)
 
 unfoldable pub withdrawal : List ℕ → List ℕ → ℕ × List ℕ
 withdrawal store id = withdrawnFrom store (asked store id)
-
--- list: the number, n, and the lent list and the store as they are left
-pub record Listing : Type 0 where
-  pub number : ℕ
-  pub n : ℕ
-  pub list : List ℕ
-  pub store : List ℕ
-
--- what the code's answer, the list and the store that it leaves say
-abbrev pub listing : Listed → List ℕ → List ℕ → Listing
-listing r l s = record { number = r .number; n = r .n; list = l; store = s }
-
-abbrev pub refusedList : ℕ → List ℕ → List ℕ → Listing
-refusedList k l s = record { number = k; n = 0; list = l; store = s }
-
--- the slots are written to the front of the list
-abbrev pub written : List ℕ → List ℕ → List ℕ → Listing
-written slots l s = record { number = ACCEPTED; n = length slots; list = withFront slots l; store = s }
 
 -- the page names what falls by the withdrawal from the same store
 unfoldable pub listedFor : List ℕ → ℕ → List ℕ → Answer ℕ → Listing

@@ -1,11 +1,10 @@
 ghost use mathlib.Core.Path.{_≡_};
 ghost use mathlib.Core.Bool.{true};
-ghost use Prim.Native.Nat.{_≤_, _<_};
-ghost use lib.ListN.{length};
+ghost use Prim.Native.Nat.{_<_};
 ghost use Rattle.store.specs.Slots.{slotCount};
 ghost use Rattle.validity.specs.Valid.{validStore};
-ghost use Rattle.octets.specs.Buffers.{withFront};
-ghost use Rattle.withdrawal.specs.Computed.{bit, bitsFrom, slotsIn, fallsWith};
+ghost use Rattle.slot_lists.specs.Computed.{bit, bitsFrom};
+ghost use Rattle.withdrawal.specs.Computed.{fallsWith};
 use chain::subjects::Place;
 use chain::walking::FOLLOWERS;
 use chain::walking::NO_SLOT;
@@ -44,22 +43,4 @@ pub fn slot_set(store: &[u8], second: u64, c: usize) -> u64
         set = set * 2 + falls_at(store, i, second, c);
     }
     set
-}
-
-// The slots of a set go to the front of a lent list, in slot order.
-pub fn write_slots(set: u64, lent: &mut [u8])
-    requires { ⌜ slotCount ≤ length (now lent) ⌝ }
-    ensures { λ _. ⌜ now (lent .exit) ≡ withFront (slotsIn set 0 slotCount) (now (lent .entry)) ⌝ }
-{
-    let mut rest = set;
-    let mut k: usize = 0;
-    let mut i: usize = 0;
-    while i < SLOTS {
-        if rest % 2 == 1 {
-            lent[k] = i as u8;
-            k += 1;
-        }
-        rest = rest / 2;
-        i += 1;
-    }
 }

@@ -4,7 +4,6 @@ mod falling; // which certificates fall by a withdrawal
 mod operations; // the two operations, and both one after the other
 
 pub use operations::Both;
-pub use operations::Listed;
 pub use operations::list;
 pub use operations::list_then_withdraw;
 pub use operations::withdraw;

@@ -6,22 +6,18 @@ ghost use lib.ListN.{length};
 ghost use Rattle.order.specs.Steps.{gives};
 ghost use Rattle.store.specs.Slots.{slotCount, filledAt};
 ghost use Rattle.validity.specs.Valid.{validStore};
-ghost use Rattle.withdrawal.specs.Order.{listing, listedFor, page, withdrawal};
+ghost use Rattle.slot_lists.specs.Listings.{listing};
+ghost use Rattle.withdrawal.specs.Order.{listedFor, page, withdrawal};
 ghost use Rattle.withdrawal.specs.Demand.{BothCalls};
 use crate::asking::Asked;
 use crate::asking::ask;
 use crate::falling::slot_set;
-use crate::falling::write_slots;
 use octets::refusals::ACCEPTED;
 use octets::refusals::BAD_CALL;
+use slot_lists::Listed;
+use slot_lists::write_slots;
 use store::sizes::SLOTS;
 use store::withdrawals::mark_withdrawn;
-
-// What list answers: the number, and how many slots the list has.
-pub struct Listed {
-    pub number: u8,
-    pub n: u32,
-}
 
 // What list answers, and then withdraw.
 pub struct Both {

@@ -22,8 +22,9 @@ use Rattle.validity.specs.Valid.{slotGood, validStore}
 use Rattle.chain.specs.Walk.{walk}
 use Rattle.chain.specs.Stored.{subjectAt, issuerIn, walkNumber}
 use Rattle.chain.specs.Computed.{alsoAt}
-use Rattle.withdrawal.specs.SlotSets.{slotsFrom}
-use Rattle.withdrawal.specs.Order.{asked, listedFor, after, page, withdrawal, refusedList}
+use Rattle.slot_lists.specs.SlotSets.{slotsFrom}
+use Rattle.slot_lists.specs.Listings.{refusedList}
+use Rattle.withdrawal.specs.Order.{asked, listedFor, after, page, withdrawal}
 use Rattle.withdrawal.specs.Computed.{heldAt, fallsWith}
 use Rattle.withdrawal.specs.Order as order
 use Rattle.withdrawal.proofs.Asked.{asked-unknown, asked-at, page-asked, page-refused, withdrawal-asked}

@@ -19,7 +19,8 @@ use Rattle.certificate.specs.declared.operations.Identified.{Identified}
 use Rattle.records.specs.Records.{imageOf}
 use Rattle.store.specs.Slots.{HELD, withSlot}
 use Rattle.admission.specs.Order.{installed, admitted}
-use Rattle.withdrawal.specs.Order.{Listing, after, page, withdrawal, refusedList, written}
+use Rattle.slot_lists.specs.Listings.{Listing, refusedList, written}
+use Rattle.withdrawal.specs.Order.{after, page, withdrawal}
 use Rattle.verification.specs.Order.{situation, question, unasked, decision, undecided, preparation, unprepared}
 use Rattle.verification.specs.declared.judging.Situation.{Situation}
 use Rattle.verification.specs.declared.operations.Decision.{Decision}

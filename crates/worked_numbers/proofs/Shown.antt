@@ -22,7 +22,7 @@ use Rattle.validity.specs.Valid.{slotGood, differs, fresh, validStore}
 use Rattle.chain.specs.Stored.{subjectAt, issuerIn, walkNumber}
 use Rattle.chain.specs.Computed.{alsoAt}
 use Rattle.chain.specs.Walk.{walk}
-use Rattle.withdrawal.specs.SlotSets.{slotsFrom}
+use Rattle.slot_lists.specs.SlotSets.{slotsFrom}
 use Rattle.withdrawal.specs.Order.{asked, listedFor, page}
 use Rattle.withdrawal.specs.Computed.{fallsWith}
 use Rattle.withdrawal.specs.Order as order

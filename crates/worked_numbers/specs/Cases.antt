@@ -10,7 +10,8 @@ use Rattle.octets.specs.Numbers.{intxAt}
 use Rattle.octets.specs.Durations.{durationAt}
 use Rattle.octets.specs.Coordinates.{latitudeAt}
 use Rattle.store.specs.Slots.{slotCount}
-use Rattle.withdrawal.specs.Order.{written, page}
+use Rattle.slot_lists.specs.Listings.{written}
+use Rattle.withdrawal.specs.Order.{page}
 use Rattle.sample_stores.specs.Stores.{eight}
 use Rattle.worked_numbers.specs.Example.{shown}
 

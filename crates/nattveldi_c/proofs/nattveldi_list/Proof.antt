@@ -10,7 +10,8 @@ use mir.Val.{SFits, toZ}
 use mir.Facts.{toZ-pos, toZ-ofZ}
 use Rattle.octets.proofs.Laws.{chosen, passed}
 use Rattle.octets.proofs.Signed.{mag-neg}
-use Rattle.withdrawal.specs.Order.{Listing, page}
+use Rattle.slot_lists.specs.Listings.{Listing}
+use Rattle.withdrawal.specs.Order.{page}
 use Rattle.page_text.proofs.Pages.{page-slots}
 use Rattle.nattveldi_c.specs.Calls.{listAnswer, listCall}
 use borrow.Author.Needs.{needs}

@@ -2,8 +2,9 @@
 use mathlib.Core.Path.{_≡_, refl, ap, _∙_}
 use Prim.Native.Nat.{ℕ, _+_, _*_, _^_, _-_, _≤_, _<_}
 use native.Mathlib.Omega.{arith}
-use Rattle.withdrawal.specs.Computed.{bitsFrom, fallsWith}
-use Rattle.withdrawal.proofs.SlotSets.{bits-top, bits-down, bits-zero, bit-small}
+use Rattle.slot_lists.specs.Computed.{bitsFrom}
+use Rattle.slot_lists.proofs.SlotSets.{bits-top, bits-down, bits-zero, bit-small}
+use Rattle.withdrawal.specs.Computed.{fallsWith}
 use Rattle.withdrawal.proofs.falling.slot_set.Statement.{statement}
 use Rattle.withdrawal.proofs.falling.slot_set.Tie as tie
 

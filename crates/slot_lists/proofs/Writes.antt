@@ -9,10 +9,10 @@ use lib.ListN.{length, take, drop, set, length-set, take-append-drop}
 use lib.Seq.{take-suc-set, drop-set-lt, drop-drop, append-snoc, length-take-le}
 use lib.Dec.{eqb}
 use borrow.Author.Tests.{eq-eqb, ne-eqb}
-use Rattle.withdrawal.specs.SlotSets.{slotsFrom}
 use Rattle.octets.specs.Buffers.{withFront}
-use Rattle.withdrawal.specs.Computed.{slotsIn, bit, bitsFrom}
-use Rattle.withdrawal.proofs.SlotSets.{bits-mod, bits-div}
+use Rattle.slot_lists.specs.SlotSets.{slotsFrom}
+use Rattle.slot_lists.specs.Computed.{slotsIn, bit, bitsFrom}
+use Rattle.slot_lists.proofs.SlotSets.{bits-mod, bits-div}
 
 pub record Writing (n : ℕ) (out₀ out : List ℕ) (rest k i : ℕ) : Type 0 where
   pub i-le : i ≤ 64

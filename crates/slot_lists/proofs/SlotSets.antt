@@ -9,8 +9,8 @@ use native.Mathlib.Omega.{arith}
 use lib.ListN.{length, getD}
 use lib.Pow.{pow-mono}
 use lib.Count.{ones, ones-step}
-use Rattle.withdrawal.specs.SlotSets.{slotsFrom}
-use Rattle.withdrawal.specs.Computed.{bit, bitsFrom}
+use Rattle.slot_lists.specs.SlotSets.{slotsFrom}
+use Rattle.slot_lists.specs.Computed.{bit, bitsFrom}
 
 pub bit-small : (b : Bool) (x : ℕ) → x ≡ bit b → x ≤ 1
 unfolding bit

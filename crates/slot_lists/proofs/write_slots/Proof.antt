@@ -2,9 +2,9 @@
 use mathlib.Core.Logic.{⊎-elim}
 use Prim.Native.Nat.{_-_}
 use native.Mathlib.Omega.{arith}
-use Rattle.withdrawal.proofs.Writes.{Writing, start, pass, put, done}
-use Rattle.withdrawal.proofs.falling.write_slots.Statement.{statement}
-use Rattle.withdrawal.proofs.falling.write_slots.Tie as tie
+use Rattle.slot_lists.proofs.Writes.{Writing, start, pass, put, done}
+use Rattle.slot_lists.proofs.write_slots.Statement.{statement}
+use Rattle.slot_lists.proofs.write_slots.Tie as tie
 
 abbrev Inv-loop : tie.InvT-loop
 Inv-loop set lent₀ rest₀ k₀ i₀ lent rest k i = Writing set lent₀ lent rest k i

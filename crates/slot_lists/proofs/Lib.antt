@@ -1,0 +1,3 @@
+pub mod SlotSets
+pub mod Writes
+pub mod Listings

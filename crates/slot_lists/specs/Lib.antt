@@ -1,0 +1,3 @@
+pub mod SlotSets
+pub mod Listings
+pub mod Computed
