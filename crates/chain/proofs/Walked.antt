@@ -6,8 +6,8 @@ use mathlib.Core.Option.{Option, none, some}
 use Prim.Native.Nat.{ℕ, zero, suc, _-_, _<_}
 use native.Mathlib.Nat.{suc-ne-zero}
 use borrow.Author.Tests.{eq-eqb, ne-eqb, eqb-true, eqb-false}
-use Rattle.order.specs.Steps.{Answer, gives, refused, onward, Steps, done, stop, take, fork, run, needs, Coded, no-row, coded}
-use Rattle.order.proofs.Steps.{gives-exactly, refuses-exactly, gives-refused, run-follow, needs-to, needs-from, needs-refuse-first, all-pass, first-fails}
+use Rattle.order.specs.Steps.{Answer, gives, refused, onward, Steps, done, stop, take, fork, run, needs, Coded, no-row, coded, Named}
+use Rattle.order.proofs.Steps.{gives-exactly, run-named, refuses-exactly, gives-refused, run-follow, needs-to, needs-from, needs-refuse-first, all-pass, first-fails}
 use lib.Dec.{eqb}
 use Rattle.octets.specs.Refusals.{UNKNOWN, CHAIN-TOO-LONG}
 use Rattle.scope.specs.Issued.{issuedRows, issuedNumber}
@@ -90,6 +90,19 @@ up-found l c j e = go (find l (c .issuer)) refl e
     go (some i) f e =
         let q : find l (c .issuer) ≡ some j = f ∙ ap (λ (k : ℕ). some k) (linked-slot l (c .scope) i j e) in
         (find-finds l (c .issuer) j q .0, found-again l (c .issuer) j q)
+
+-- and none is refused with 0
+linked-named : (l : List ℕ) (s : Scope) (i : ℕ) → Named (linked l s i)
+unfolding linked
+linked-named l s i = run-named (needs (issuedRows s (scopeOf (slotOf l i))) (done i)) tt
+
+pub up-named : (l : List ℕ) (c : Subject) → Named (upward l c)
+unfolding upward
+up-named l c = go (find l (c .issuer))
+  where
+    go : (o : Option ℕ) → Named (onward (slotOr UNKNOWN o) (linked l (c .scope)))
+    go none = tt
+    go (some i) = linked-named l (c .scope) i
 
 -- what a step leads to
 pub led : (l : List ℕ) (n : ℕ) (a : Answer ℕ) (j : ℕ) → a ≡ gives j → Leads l n a → Leads l n (gives j)

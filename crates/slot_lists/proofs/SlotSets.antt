@@ -4,10 +4,10 @@ use mathlib.Core.Logic.{_⊎_, inl, inr, ⊎-elim}
 use mathlib.Core.Bool.{Bool, true, false, cond, false≢true}
 use mathlib.Core.List.{[], _∷_, List·Memᴰ, List·Memᴰ·head, List·Memᴰ·tail, List·Memᴰ·cases-cons, List·Memᴰ·not-nil}
 use Prim.Native.Nat.{ℕ, zero, suc, _+_, _*_, _-_, _^_, _/_, _%_, _≤_, _<_, zero-le}
-use native.Mathlib.Nat.{eq-or-lt-of-le, pow-suc}
+use native.Mathlib.Nat.{eq-or-lt-of-le, pow-suc, div-one}
 use native.Mathlib.Omega.{arith}
 use lib.ListN.{length, getD}
-use lib.Pow.{pow-mono}
+use lib.Pow.{pow-mono, shr-shr}
 use lib.Count.{ones, ones-step}
 use Rattle.slot_lists.specs.SlotSets.{slotsFrom}
 use Rattle.slot_lists.specs.Computed.{bit, bitsFrom}
@@ -82,18 +82,30 @@ module _ (p : ℕ → Bool) where
   slots-sorted a zero x y l u = absurd (omega arith)
   slots-sorted a (suc k) x y l u = sorted-cons a k x y (p a) (slots-sorted (suc a) k) l u
 
-  -- where two tests agree, so do their lists
+  -- where two tests agree, so do their lists and their numbers
   pub slots-same : (q : ℕ → Bool) (a k : ℕ) → ((i : ℕ) → a ≤ i → i < a + k → p i ≡ q i) → slotsFrom p a k ≡ slotsFrom q a k
   unfolding slotsFrom
   slots-same q a zero f = refl
   slots-same q a (suc k) f =
       rw (f a (omega arith) (omega arith), slots-same q (suc a) k (λ i l u. f i (omega arith) (omega arith)))
 
-  -- where the test holds nowhere the list is empty
+  pub bits-same : (q : ℕ → Bool) (a k : ℕ) → ((i : ℕ) → a ≤ i → i < a + k → p i ≡ q i) → bitsFrom p a k ≡ bitsFrom q a k
+  unfolding bitsFrom
+  bits-same q a zero f = refl
+  bits-same q a (suc k) f =
+      rw (f a (omega arith) (omega arith), bits-same q (suc a) k (λ i l u. f i (omega arith) (omega arith)))
+
+  -- where the test holds nowhere the list is empty, and the number is 0
   pub slots-none : (a k : ℕ) → ((i : ℕ) → a ≤ i → i < a + k → p i ≡ false) → slotsFrom p a k ≡ []
   unfolding slotsFrom
   slots-none a zero f = refl
   slots-none a (suc k) f = rw (f a (omega arith) (omega arith)) (slots-none (suc a) k (λ i l u. f i (omega arith) (omega arith)))
+
+  pub bits-none : (a k : ℕ) → ((i : ℕ) → a ≤ i → i < a + k → p i ≡ false) → bitsFrom p a k ≡ 0
+  unfolding bitsFrom bit
+  bits-none a zero f = refl
+  bits-none a (suc k) f =
+      rw (f a (omega arith) (omega arith), bits-none (suc a) k (λ i l u. f i (omega arith) (omega arith)))
 
   -- the number
   pub bits-mod : (a k : ℕ) → bitsFrom p a (suc k) % 2 ≡ bit (p a)
@@ -103,6 +115,18 @@ module _ (p : ℕ → Bool) where
   pub bits-div : (a k : ℕ) → bitsFrom p a (suc k) / 2 ≡ bitsFrom p (suc a) k
   unfolding bitsFrom
   bits-div a k = omega (arith, bit-le (p a))
+
+  -- a bit of it
+  pub bits-at : (a k j : ℕ) → j < k → bitsFrom p a k / 2 ^ j % 2 ≡ bit (p (a + j))
+  bits-at a zero j h = absurd (omega arith)
+  bits-at a (suc k) zero h =
+      let e : a + 0 ≡ a = omega arith in
+      ap (λ (n : ℕ). n % 2) (div-one (bitsFrom p a (suc k))) ∙ bits-mod a k ∙ ap (λ (i : ℕ). bit (p i)) (sym e)
+  bits-at a (suc k) (suc j) h =
+      let e : suc a + j ≡ a + suc j = omega arith in
+      let less : 1 + j ≡ suc j = omega arith in
+      ap (λ (n : ℕ). n % 2) (ap (λ (m : ℕ). bitsFrom p a (suc k) / 2 ^ m) (sym less) ∙ sym (shr-shr (bitsFrom p a (suc k)) 1 j) ∙ ap (λ (n : ℕ). n / 2 ^ j) (bits-div a k))
+      ∙ bits-at (suc a) k j (omega arith) ∙ ap (λ (i : ℕ). bit (p i)) e
 
   pub bits-lt : (a k : ℕ) → bitsFrom p a k < 2 ^ k
   unfolding bitsFrom

@@ -2,7 +2,6 @@
 use mathlib.Core.Path.{_≡_, ap, _∙_}
 use mathlib.Core.Bool.{true, false}
 use mathlib.Core.List.{List}
-use mathlib.Core.Option.{some}
 use Prim.Native.Nat.{ℕ, _<_}
 use native.Mathlib.Omega.{arith}
 use lib.Count.{ones}
@@ -10,12 +9,9 @@ use borrow.Author.Tests.{ne-eqb}
 use Rattle.order.specs.Steps.{gives}
 use Rattle.bitfields.specs.Field.{Octets}
 use Rattle.geo.proofs.Bools.{and-false}
-use Rattle.store.specs.Slots.{filledAt, idAt}
-use Rattle.store.specs.Search.{find}
-use Rattle.store.proofs.Found.{find-only}
+use Rattle.store.specs.Slots.{filledAt}
 use Rattle.validity.specs.Valid.{validStore}
-use Rattle.validity.specs.Laws.{Valid}
-use Rattle.validity.proofs.Laws as validity
+use Rattle.validity.proofs.Laws.{valid-of}
 use Rattle.chain.specs.declared.subjects.Place.the-variants.{Anywhere}
 use Rattle.chain.specs.Stored.{subjectAt, walkNumber, followers}
 use Rattle.chain.specs.Computed.{noSlot, alsoAt}
@@ -28,13 +24,6 @@ use Rattle.slot_lists.proofs.Listings.{by-set}
 use Rattle.withdrawal.specs.Computed.{fallsWith}
 use Rattle.withdrawal.specs.Order.{after, falls, affected, listedFor}
 use Rattle.withdrawal.proofs.Frame.{falls-with}
-
-pub valid-of : (s : List ℕ) → validStore s ≡ true → Valid s
-valid-of s e = validity.laws .valid-exactly s .0 e
-
--- a stored certificate of a valid store is found by its id
-pub found-of : (s : List ℕ) (i : ℕ) → validStore s ≡ true → i < 64 → filledAt s i ≡ true → find s (idAt s i) ≡ some i
-found-of s i e hi f = find-only s (valid-of s e .distinct) i hi f
 
 module _ (s : List ℕ) (t c i : ℕ) where
   pub falls-empty : filledAt s i ≡ false → 0 ≡ bit (fallsWith s t c i)

@@ -15,13 +15,13 @@ use Rattle.store.specs.Slots.{withdrawnAt}
 use Rattle.store.specs.Search.{find}
 use Rattle.store.proofs.Found.{find-finds, find-only}
 use Rattle.store.proofs.Withdrawn.{withdrawn-kept}
+use Rattle.validity.proofs.Laws.{valid-of}
 use Rattle.validity.proofs.Laws as validity
 use Rattle.store.specs.Withdrawn.{withdrawnIn}
 use Rattle.slot_lists.specs.Listings.{refusedList}
 use Rattle.withdrawal.specs.Order.{asking, asked, drawing, withdrawnFrom, withdrawal, listedFor, page}
 use Rattle.withdrawal.specs.Laws.{Askable, Laws}
 use Rattle.withdrawal.proofs.Asked.{Held, asked-held, held-below, held-still, asked-at}
-use Rattle.withdrawal.proofs.Fallen.{valid-of}
 use Rattle.withdrawal.proofs.Demand.{demand3}
 
 askable : (s id : List ℕ) (c : ℕ) → Held s id c → Askable s id c

@@ -1,6 +1,7 @@
 use Rattle.geo.proofs.Bools.{of-not}
 use mathlib.Core.Path.{sym, _∙_}
-use Rattle.withdrawal.proofs.Fallen.{valid-of, found-of, falls-empty, falls-not, falls-never, falls-here}
+use Rattle.validity.proofs.Laws.{valid-of, found-of}
+use Rattle.withdrawal.proofs.Fallen.{falls-empty, falls-not, falls-never, falls-here}
 use Rattle.withdrawal.proofs.falling.falls_at.Statement.{statement}
 use Rattle.withdrawal.proofs.falling.falls_at.Tie as tie
 

@@ -1,0 +1,57 @@
+-- The invariant: the set has the slots from which a chain of at most n certificates reaches a root. Assumes nothing.
+use mathlib.Core.Path.{_≡_, ap, _∙_}
+use Prim.Native.Nat.{ℕ, _-_, _≤_}
+use native.Mathlib.Numerals.{add-one}
+use native.Mathlib.Omega.{arith}
+use borrow.Author.Needs.{needs}
+use Rattle.slot_lists.specs.Computed.{bitsFrom}
+use Rattle.overview.specs.Computed.{reaches}
+use Rattle.overview.proofs.Rounds.{no-level, next-level, last-level}
+use Rattle.overview.proofs.levels.standing_set.Statement.{statement}
+use Rattle.overview.proofs.levels.standing_set.Tie as tie
+
+abbrev Inv-loop : tie.InvT-loop
+Inv-loop store second links set₀ n₀ set n = (n ≤ 8) × (set ≡ bitsFrom (reaches store second n) 0 64)
+
+abbrev μ-loop : tie.MeasureT-loop
+μ-loop store second links set₀ n₀ set n = 8 - n
+
+links-at-requires : tie.Need-links-at-requires Inv-loop μ-loop
+links-at-requires c κs = search needs
+
+loop-holds : tie.Need-loop-holds Inv-loop μ-loop
+loop-holds c = (omega arith, no-level _ _)
+
+raised-requires : tie.Need-raised-requires Inv-loop μ-loop
+raised-requires c κs = search needs
+
+add-n : tie.Need-add-n Inv-loop μ-loop
+add-n c = omega arith
+
+loop-less : tie.Need-loop-less Inv-loop μ-loop
+loop-less c = omega arith
+
+loop-again : tie.Need-loop-again Inv-loop μ-loop
+loop-again c =
+    let L = c .before .before .loop in
+    (omega arith, rw (add-one (L .n)) (next-level _ _ (c .before .before .before .links-at .result) (c .before .before .before .links-at .ensures) (L .n) _ _ (L .inv .1) (c .raised .ensures)))
+
+returns : tie.Need-returns Inv-loop μ-loop
+returns c =
+    let L = c .before .loop in
+    let e : L .n ≡ 8 = omega arith in
+    last-level _ _ _ (rw e at (L .inv .1))
+
+pub standing-set-spec : {M : Type 1} → statement M
+standing-set-spec =
+    tie.close
+    (tie.spec
+    Inv-loop
+    μ-loop
+    links-at-requires
+    loop-holds
+    raised-requires
+    add-n
+    loop-less
+    loop-again
+    returns)
