@@ -1,4 +1,6 @@
-// What prepare and decide give, as octets at the front of a buffer.
+// What prepare, decide and stored give, as octets at the front of a buffer.
+mod slots; // all that a slot holds
+
 ghost use mathlib.Core.Path.{_≡_};
 ghost use Prim.Native.Nat.{_+_, _*_, _≤_, _<_};
 ghost use lib.ListN.{length};
@@ -6,6 +8,8 @@ ghost use Rattle.octets.specs.Buffers.{withOctets};
 ghost use Rattle.answer_words.specs.Answers.{decisionLength, questionLength, questionsLength, questionOctets, withDecision, withQuestions};
 use field_words::write_words;
 use octets::buffers::write_octets;
+pub use slots::STORED_LENGTH;
+pub use slots::write_stored;
 use verification::Decision;
 use verification::Prepared;
 use verification::Question;

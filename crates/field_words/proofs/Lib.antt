@@ -1,2 +1,3 @@
 pub mod Pasted
 pub mod Flags
+pub mod Rectangles

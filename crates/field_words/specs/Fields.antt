@@ -1,5 +1,5 @@
 -- The fields of a certificate as words: the layout of include/nattveldi.h, section by section.
-use Prim.Native.Nat.{ℕ, _/_, _^_}
+use Prim.Native.Nat.{ℕ, _+_, _/_, _^_}
 use mathlib.Core.Bool.{Bool}
 use mathlib.Core.List.{List, [], _∷_, map}
 use lib.ListN.{getD}
@@ -58,13 +58,13 @@ signatureWords signed signature =
 abbrev pub fieldsLength : ℕ
 fieldsLength = 360
 
--- a buffer with the fields of a certificate, in sections that do not meet
-unfoldable pub withRectangles : List Rectangle → List ℕ → List ℕ
-withRectangles rectangles l =
-    withWords 32 (edgeWords (getD rectangles 3 unused))
-    (withWords 28 (edgeWords (getD rectangles 2 unused))
-    (withWords 24 (edgeWords (getD rectangles 1 unused))
-    (withWords 20 (edgeWords (getD rectangles 0 unused)) l)))
+-- a buffer with the fields of a certificate, in sections that do not meet; the four rectangles stand from the word number `at` on
+unfoldable pub withRectangles : ℕ → List Rectangle → List ℕ → List ℕ
+withRectangles at rectangles l =
+    withWords (at + 12) (edgeWords (getD rectangles 3 unused))
+    (withWords (at + 8) (edgeWords (getD rectangles 2 unused))
+    (withWords (at + 4) (edgeWords (getD rectangles 1 unused))
+    (withWords at (edgeWords (getD rectangles 0 unused)) l)))
 
 unfoldable pub withPermissions : List Permission → List ℕ → List ℕ
 withPermissions values l =
@@ -80,7 +80,7 @@ withAttributes a l =
 
 unfoldable pub withRestrictions : Restrictions → List ℕ → List ℕ
 withRestrictions r l =
-    withRectangles (r .area .region .rectangles)
+    withRectangles 20 (r .area .region .rectangles)
     (withWords 18 (areaWords (r .area .given) (r .area .region .count)) (withWords 14 (periodWords (r .period)) l))
 
 unfoldable pub withFields : Certificate → List ℕ → List ℕ

@@ -1,6 +1,6 @@
 ghost use mathlib.Core.Path.{_≡_};
 ghost use mathlib.Core.List.{map};
-ghost use Prim.Native.Nat.{_≤_};
+ghost use Prim.Native.Nat.{_+_, _*_, _≤_, _<_};
 ghost use lib.ListN.{length};
 ghost use Rattle.field_words.specs.Fields.{fieldsLength, headWords, keyWords, assuranceWords, periodWords, areaWords, edgeWords, cellOf, signatureWords, withRectangles, withPermissions, withAttributes, withRestrictions, withFields};
 use crate::words::write_words;
@@ -114,19 +114,19 @@ fn signature_words(signed: Part, signature: Signature) -> [u64; 5]
     ]
 }
 
-// The four rectangles become words 20 to 35.
-fn write_rectangles(buffer: &mut [u8], rectangles: [Rectangle; 4])
-    requires { ⌜ fieldsLength ≤ length (now buffer) ⌝ }
-    ensures { λ _. ⌜ now (buffer .exit) ≡ withRectangles rectangles (now (buffer .entry)) ⌝ }
+// The four rectangles become sixteen words, from the word number `at` on.
+pub fn write_rectangles(buffer: &mut [u8], at: usize, rectangles: [Rectangle; 4])
+    requires { ⌜ (at < 900) × (4 * at + 64 ≤ length (now buffer)) ⌝ }
+    ensures { λ _. ⌜ now (buffer .exit) ≡ withRectangles at rectangles (now (buffer .entry)) ⌝ }
 {
     let first = edge_words(rectangles[0]);
-    write_words(buffer, 20, &first);
+    write_words(buffer, at, &first);
     let second = edge_words(rectangles[1]);
-    write_words(buffer, 24, &second);
+    write_words(buffer, at + 4, &second);
     let third = edge_words(rectangles[2]);
-    write_words(buffer, 28, &third);
+    write_words(buffer, at + 8, &third);
     let fourth = edge_words(rectangles[3]);
-    write_words(buffer, 32, &fourth);
+    write_words(buffer, at + 12, &fourth);
 }
 
 // The permissions become words 37 to 84.
@@ -169,7 +169,7 @@ fn write_restrictions(buffer: &mut [u8], r: Restrictions)
     let area = area_words(r.area.given, r.area.region.count);
     write_words(buffer, 18, &area);
     let rectangles = r.area.region.rectangles;
-    write_rectangles(buffer, rectangles);
+    write_rectangles(buffer, 20, rectangles);
 }
 
 // The fields of a certificate become the first octets of a buffer.

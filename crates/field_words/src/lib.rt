@@ -4,4 +4,5 @@ mod fields; // the fields of a certificate as words
 
 pub use fields::FIELDS_LENGTH;
 pub use fields::write_fields;
+pub use fields::write_rectangles;
 pub use words::write_words;

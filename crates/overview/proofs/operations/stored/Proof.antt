@@ -45,7 +45,7 @@ record-at-requires c κs = search needs
 
 returns-5 : tie.Need-returns-5
 returns-5 c =
-    ap {B = SlotReading × List ℕ} (λ (x : SlotReading). (x, c .before .before .before .before .before .before .before .before .args .store .now)) 
+    ap {B = SlotReading × List ℕ} (λ (x : SlotReading). (x, c .before .before .before .before .before .before .before .before .args .store .now))
     (ap {B = SlotReading} (λ (r : Record). record { number = 0; contents = r }) (c .record-at .ensures)
     ∙ read-filled _ _ (c .before .before .before .before .before .before .if1 .left) (omega arith) (sym (c .before .before .before .before .valid .ensures) ∙ of-not _ (c .before .before .before .if3 .left)) (sym (c .before .before .filled .ensures) ∙ of-not _ (c .before .if4 .left)))
 
