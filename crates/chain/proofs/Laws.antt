@@ -79,6 +79,11 @@ stranger : (gone gone' : ℕ → Bool) (x : ℕ) → ((y : ℕ) → ¬ (y ≡ x)
 unfolding walkNumber
 stranger gone gone' x same l t p n c f = ap number (met.stranger (issuerIn l) gone gone' x same t p n c f)
 
+-- what stands is stored
+pub stands-filled : (l : List ℕ) (t i : ℕ) → stands l t i ≡ true → filledAt l i ≡ true
+unfolding stands
+stands-filled l t i e = and-split (filledAt l i) _ e .0
+
 pub stands-exactly : (l : List ℕ) (t i : ℕ) → filledAt l i ≡ true → (stands l t i ≡ true) ↔ Chain (issuerIn l) (Sound (withdrawnIn l) t Anywhere) followers (subjectAt l i)
 unfolding stands
 stands-exactly l t i f =

@@ -1,5 +1,5 @@
--- What read, id, prepare, decide and list answer in C, and what their buffers then hold; the others have their operation's own definition. A refusal
--- leaves the buffer as it was.
+-- What read, id, prepare, decide, list, standing and stored answer in C, and what their buffers then hold; the others have their
+-- operation's own definition. A refusal leaves the buffer as it was.
 use Prim.Native.Nat.{ℕ}
 use mathlib.Core.List.{List}
 use lib.ListN.{length}
@@ -17,7 +17,10 @@ use Rattle.verification.specs.declared.judging.Situation.{Situation}
 use Rattle.verification.specs.declared.operations.Prepared.{Prepared}
 use Rattle.verification.specs.declared.operations.Decision.{Decision}
 use Rattle.answer_words.specs.Answers.{withQuestions, withDecision, questionsLength, decisionLength}
+use Rattle.answer_words.specs.Slots.{withStored, storedLength}
 use Rattle.slot_lists.specs.Listings.{Listing}
+use Rattle.overview.specs.Order.{slotReading, standingListing}
+use Rattle.overview.specs.declared.operations.SlotReading.{SlotReading}
 use Rattle.withdrawal.specs.Order.{page}
 
 abbrev pub Call : Type 0
@@ -52,9 +55,25 @@ unfoldable pub decideCall : List ℕ → List ℕ → Situation → ℕ → ℕ 
 decideCall store message x verdict certified buffer =
     pick (ltb (length buffer) decisionLength) (BAD-CALL, buffer, store) (decideAnswer (decision store message x verdict certified) buffer store)
 
--- how many slots the list names, or minus the number of the refusal; then the list and the store as they are left
+-- how many slots a list names, or minus the number of the refusal
+unfoldable pub countOf : ℕ → ℕ → ℤ
+countOf number n = pick (eqb number ACCEPTED) (pos n) (negℤ (pos number))
+
+-- that, then the list and the store as they are left
 abbrev pub listAnswer : Listing → ℤ × List ℕ × List ℕ
-listAnswer p = (pick (eqb (p .number) ACCEPTED) (pos (p .n)) (negℤ (pos (p .number))), p .list, p .store)
+listAnswer p = (countOf (p .number) (p .n), p .list, p .store)
 
 unfoldable pub listCall : List ℕ → List ℕ → ℕ → List ℕ → ℤ × List ℕ × List ℕ
 listCall store id second list = listAnswer (page store id second list)
+
+-- standing in the same way
+unfoldable pub standingCall : List ℕ → ℕ → List ℕ → ℤ × List ℕ × List ℕ
+standingCall store second list = listAnswer (standingListing store second list)
+
+-- stored: the number, and the buffer and the store as they are left
+abbrev pub storedAnswer : SlotReading → List ℕ → List ℕ → ℕ × List ℕ × List ℕ
+storedAnswer r buffer store = pick (eqb (r .number) ACCEPTED) (ACCEPTED, withStored (r .contents) buffer, store) (r .number, buffer, store)
+
+unfoldable pub storedCall : List ℕ → ℕ → List ℕ → ℕ × List ℕ × List ℕ
+storedCall store slot buffer =
+    pick (ltb (length buffer) storedLength) (BAD-CALL, buffer, store) (storedAnswer (slotReading store slot) buffer store)

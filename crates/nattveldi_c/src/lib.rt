@@ -1,22 +1,37 @@
 // The C interface (include/nattveldi.h): numbers and octet slices. A buffer that is too short is a bad call.
 ghost use mathlib.Core.Path.{_≡_};
 ghost use mathlib.Core.List.{List};
-ghost use Prim.Native.Nat.{ℕ};
+ghost use Prim.Native.Nat.{ℕ, _≤_};
 ghost use lib.IntN.{ℤ};
 ghost use Rattle.admission.specs.Order.{installed, admitted};
 ghost use Rattle.verification.specs.Order.{situation};
+ghost use Rattle.store.specs.Slots.{slotCount};
 ghost use Rattle.withdrawal.specs.Order.{withdrawal};
 ghost use Rattle.page_text.specs.Page.{pageCall};
-ghost use Rattle.nattveldi_c.specs.Calls.{readCall, idCall, prepareCall, decideCall, listCall};
+ghost use Rattle.nattveldi_c.specs.Calls.{readCall, idCall, prepareCall, decideCall, countOf, listCall, standingCall, storedCall};
 use answer_words::DECISION_LENGTH;
 use answer_words::QUESTIONS_LENGTH;
+use answer_words::STORED_LENGTH;
 use answer_words::write_decision;
 use answer_words::write_questions;
+use answer_words::write_stored;
 use field_words::FIELDS_LENGTH;
 use field_words::write_fields;
+use nattveldi::Listed;
 use octets::buffers::write_front;
 use octets::refusals::ACCEPTED;
 use octets::refusals::BAD_CALL;
+
+// What a list answers in C: how many slots it names, or minus the number of the refusal.
+fn counted(listed: Listed) -> i32
+    requires { ⌜ listed .n ≤ slotCount ⌝ }
+    ensures { λ r. ⌜ r ≡ countOf (listed .number) (listed .n) ⌝ }
+{
+    if listed.number != ACCEPTED {
+        return -(listed.number as i32);
+    }
+    listed.n as i32
+}
 
 #[no_mangle]
 pub extern "C" fn nattveldi_read(certificate: &[u8], fields: &mut [u8]) -> u8
@@ -126,14 +141,36 @@ pub extern "C" fn nattveldi_decide(
 }
 
 #[no_mangle]
+pub extern "C" fn nattveldi_stored(store: &[u8], slot: usize, stored: &mut [u8]) -> u8
+    ensures { λ r. ⌜ _≡_ {A = ℕ × List ℕ × List ℕ} (r, now (stored .exit), now (store .exit)) (storedCall (now (store .entry)) slot (now (stored .entry))) ⌝ }
+{
+    if stored.len() < STORED_LENGTH {
+        return BAD_CALL;
+    }
+    let reading = nattveldi::stored(store, slot);
+    let number = reading.number;
+    if number != ACCEPTED {
+        return number;
+    }
+    let contents = reading.contents;
+    write_stored(stored, contents);
+    ACCEPTED
+}
+
+#[no_mangle]
+pub extern "C" fn nattveldi_standing(store: &[u8], second: u32, list: &mut [u8]) -> i32
+    ensures { λ r. ⌜ _≡_ {A = ℤ × List ℕ × List ℕ} (r, now (list .exit), now (store .exit)) (standingCall (now (store .entry)) second (now (list .entry))) ⌝ }
+{
+    let listed = nattveldi::standing(store, second, list);
+    counted(listed)
+}
+
+#[no_mangle]
 pub extern "C" fn nattveldi_list(store: &[u8], id: &[u8], second: u32, list: &mut [u8]) -> i32
     ensures { λ r. ⌜ _≡_ {A = ℤ × List ℕ × List ℕ} (r, now (list .exit), now (store .exit)) (listCall (now (store .entry)) (now (id .entry)) second (now (list .entry))) ⌝ }
 {
     let listed = nattveldi::list(store, id, second, list);
-    if listed.number != ACCEPTED {
-        return -(listed.number as i32);
-    }
-    listed.n as i32
+    counted(listed)
 }
 
 #[no_mangle]

@@ -1,2 +1,3 @@
 pub mod Tests
 pub mod Rounds
+pub mod Laws

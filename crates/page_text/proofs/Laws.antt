@@ -5,7 +5,7 @@ use Prim.Native.Nat.{ℕ, _<_}
 use lib.ListN.{length, getD, replicate}
 use Rattle.octets.specs.Refusals.{ACCEPTED}
 use Rattle.store.specs.Slots.{slotCount}
-use Rattle.withdrawal.specs.Demand.{named}
+use Rattle.slot_lists.specs.Listings.{named}
 use Rattle.page_text.specs.Lines.{linesOf, headOf, countOf, refusedOf}
 use Rattle.page_text.specs.Page.{inputLength, storeIn, idIn, secondIn, pageText}
 use Rattle.page_text.specs.Laws.{answerTo, lineCount, Laws}

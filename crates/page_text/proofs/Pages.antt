@@ -16,9 +16,8 @@ use Rattle.text.specs.Text.{Written}
 use Rattle.records.specs.Layout.{ID}
 use Rattle.store.specs.Slots.{slotCount}
 use Rattle.slot_lists.specs.SlotSets.{slotsFrom}
-use Rattle.slot_lists.specs.Listings.{Listing}
+use Rattle.slot_lists.specs.Listings.{Listing, named}
 use Rattle.withdrawal.specs.Order.{after, falls, affected, drawing, listedFor, page}
-use Rattle.withdrawal.specs.Demand.{named}
 use Rattle.slot_lists.proofs.SlotSets.{slots-fit}
 use Rattle.page_text.specs.Lines.{linesOf, headOf, countOf, refusedOf}
 use Rattle.page_text.specs.Page.{inputLength, storeIn, idIn, secondIn, listed, pageOf, pageText, pageCall}

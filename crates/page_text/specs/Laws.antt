@@ -7,8 +7,7 @@ use lib.ListN.{length, getD}
 use Rattle.octets.specs.Reading.{pick}
 use Rattle.octets.specs.Refusals.{ACCEPTED, BAD-CALL}
 use Rattle.store.specs.Slots.{slotCount}
-use Rattle.slot_lists.specs.Listings.{Listing}
-use Rattle.withdrawal.specs.Demand.{named}
+use Rattle.slot_lists.specs.Listings.{Listing, named}
 use Rattle.page_text.specs.Lines.{linesOf, headOf, countOf, refusedOf}
 use Rattle.page_text.specs.Page.{inputLength, storeIn, idIn, secondIn, listed, pageText}
 

@@ -9,9 +9,8 @@ use Rattle.octets.specs.Buffers.{withFront}
 use Rattle.bitfields.specs.Field.{number}
 use Rattle.records.specs.Layout.{ID}
 use Rattle.store.specs.Slots.{slotCount, storeLength}
-use Rattle.slot_lists.specs.Listings.{Listing}
+use Rattle.slot_lists.specs.Listings.{Listing, named}
 use Rattle.withdrawal.specs.Order.{page}
-use Rattle.withdrawal.specs.Demand.{named}
 use Rattle.page_text.specs.Lines.{linesOf, headOf, countOf, refusedOf}
 use Rattle.page_text.specs.Sizes.{pageLength}
 

@@ -17,14 +17,15 @@ use Rattle.store.specs.Withdrawn.{withdrawnIn}
 use Rattle.store.proofs.Found.{find-only, withdrawn-found}
 use Rattle.store.proofs.Withdrawn.{bit-kept, state-gone, long-kept}
 use Rattle.validity.proofs.Laws as validity
-use Rattle.chain.specs.Stored.{stands}
+use Rattle.chain.specs.Stored.{stands, Stored, Stands}
 use Rattle.octets.specs.Buffers.{withFront}
 use Rattle.slot_lists.specs.Listings.{Listing, written}
 use Rattle.slot_lists.proofs.SlotSets.{mem-to, mem-from, slots-sorted, slots-fit, slots-none}
 use Rattle.slot_lists.proofs.Listings.{front-named, front-long, front-behind}
 use Rattle.withdrawal.specs.Order.{asked, after, falls, affected, withdrawal, listedFor, page}
-use Rattle.withdrawal.specs.Demand.{Stored, Stands, Demand3, Asked, Demand, Kept3}
-use Rattle.withdrawal.proofs.Frame.{stands-filled, fewer-stand, stood}
+use Rattle.withdrawal.specs.Demand.{Demand3, Asked, Demand, Kept3}
+use Rattle.chain.proofs.Laws.{stands-filled}
+use Rattle.withdrawal.proofs.Frame.{fewer-stand, stood}
 use Rattle.withdrawal.proofs.Asked.{held-still, asked-at, page-asked, withdrawal-asked}
 
 true-not : (b : Bool) → ¬ (b ≡ true) → not b ≡ true

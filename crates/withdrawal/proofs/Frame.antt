@@ -30,13 +30,9 @@ use Rattle.store.specs.Withdrawn.{atFound, withdrawnIn}
 use Rattle.chain.proofs.Own.{none-also}
 use Rattle.chain.proofs.Walks.{chain-map}
 use Rattle.chain.proofs.Chains as chains
-use Rattle.chain.proofs.Laws.{accepted-exactly, passed-stored, stands-exactly, laws}
+use Rattle.chain.proofs.Laws.{accepted-exactly, passed-stored, stands-exactly, stands-filled, laws}
 use Rattle.withdrawal.specs.Order.{after, falls}
 use Rattle.withdrawal.specs.Computed.{fallsWith}
-
-pub stands-filled : (s : List ℕ) (t i : ℕ) → stands s t i ≡ true → filledAt s i ≡ true
-unfolding stands
-stands-filled s t i e = and-split (filledAt s i) _ e .0
 
 id-of : (s : List ℕ) (i : ℕ) → idAt s i ≡ subjectAt s i .id
 unfolding subjectAt

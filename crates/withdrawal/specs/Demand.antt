@@ -1,26 +1,16 @@
 -- Demand 3, over the definitions that the contracts of `list` and `withdraw` cite.
 use mathlib.Core.Path.{_≡_}
 use mathlib.Core.Logic.{_↔_}
-use mathlib.Core.Bool.{true}
 use mathlib.Core.List.{List, List·Memᴰ}
 use Prim.Native.Nat.{ℕ, _+_, _*_, _<_, _≤_}
 use lib.ListN.{length, getD}
 use Rattle.bitfields.specs.Field.{number, field, Octets}
 use Rattle.records.specs.Layout.{STATE, slotBits}
-use Rattle.store.specs.Slots.{slotCount, storeLength, HELD, GONE, stateAt, filledAt, idAt}
+use Rattle.store.specs.Slots.{slotCount, storeLength, HELD, GONE, stateAt, idAt}
 use Rattle.validity.specs.Laws.{Valid}
-use Rattle.chain.specs.Stored.{stands}
+use Rattle.chain.specs.Stored.{stands, Stored, Stands}
 use Rattle.slot_lists.specs.Listings.{Listing, named}
 use Rattle.withdrawal.specs.Order.{page, withdrawal}
-
--- slot i holds a certificate
-pub record Stored (s : List ℕ) (i : ℕ) : Type 0 where
-  pub slot : i < slotCount
-  pub filled : filledAt s i ≡ true
-
--- the certificate in slot i stands at the second t
-abbrev pub Stands : List ℕ → ℕ → ℕ → Type 0
-Stands s t i = stands s t i ≡ true
 
 -- s: the store that both get; c: the slot of the certificate; t: the second; l: the lent list; p: what list gives; w: the number that withdraw
 -- answers, and the store that it leaves
