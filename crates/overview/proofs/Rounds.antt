@@ -167,6 +167,14 @@ module _ (l : List ℕ) (t : ℕ) where
       q ∙ bits-same (λ i. leadsTo x (getD links i 0)) (reaches l t (suc n)) 0 64
       (λ i a b. ap (leadsTo x) (are i b) ∙ ap (λ (m : ℕ). leadsTo m (linkAt l t i)) e ∙ level l t i n)
 
+  -- a round that adds none: no later one does
+  pub still : (links : List ℕ) → Links l t links → (n x y : ℕ) → x ≡ bitsFrom (reaches l t n) 0 64 → y ≡ bitsFrom (λ i. leadsTo x (getD links i 0)) 0 64 → y ≡ x
+      → (k : ℕ) → x ≡ bitsFrom (reaches l t (k + n)) 0 64
+  still links are n x y e q same zero = e ∙ ap (λ (m : ℕ). bitsFrom (reaches l t m) 0 64) (omega arith)
+  still links are n x y e q same (suc k) =
+      let more : suc (k + n) ≡ suc k + n = omega arith in
+      next-level links are (k + n) x x (still links are n x y e q same k) (sym same ∙ q) ∙ ap (λ (m : ℕ). bitsFrom (reaches l t m) 0 64) more
+
   pub last-level : (x : ℕ) → x ≡ bitsFrom (reaches l t 8) 0 64 → x ≡ bitsFrom (stands l t) 0 64
   unfolding reaches stands
   last-level x e = e

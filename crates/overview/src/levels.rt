@@ -39,7 +39,7 @@ fn raised(links: [u8; SLOTS], set: u64) -> u64
 }
 
 // The slots of the certificates that stand at a second, as a set: bit i is slot i. After n rounds the set has those from which a chain
-// of at most n certificates reaches a root.
+// of at most n certificates reaches a root; a round that adds none is the last.
 pub fn standing_set(store: &[u8], second: u64) -> u64
     requires { ⌜ validStore (now store) ≡ true ⌝ }
     ensures { λ r. ⌜ r ≡ bitsFrom (stands (now (store .entry)) second) 0 slotCount ⌝ }
@@ -48,7 +48,11 @@ pub fn standing_set(store: &[u8], second: u64) -> u64
     let mut set: u64 = 0;
     let mut n = 0;
     while n <= FOLLOWERS {
-        set = raised(links, set);
+        let next = raised(links, set);
+        if next == set {
+            return set;
+        }
+        set = next;
         n += 1;
     }
     set

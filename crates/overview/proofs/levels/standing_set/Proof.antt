@@ -1,12 +1,12 @@
 -- The invariant: the set has the slots from which a chain of at most n certificates reaches a root. Assumes nothing.
 use mathlib.Core.Path.{_≡_, ap, _∙_}
-use Prim.Native.Nat.{ℕ, _-_, _≤_}
+use Prim.Native.Nat.{ℕ, _+_, _-_, _≤_}
 use native.Mathlib.Numerals.{add-one}
 use native.Mathlib.Omega.{arith}
 use borrow.Author.Needs.{needs}
 use Rattle.slot_lists.specs.Computed.{bitsFrom}
 use Rattle.overview.specs.Computed.{reaches}
-use Rattle.overview.proofs.Rounds.{no-level, next-level, last-level}
+use Rattle.overview.proofs.Rounds.{no-level, next-level, still, last-level}
 use Rattle.overview.proofs.levels.standing_set.Statement.{statement}
 use Rattle.overview.proofs.levels.standing_set.Tie as tie
 
@@ -25,6 +25,13 @@ loop-holds c = (omega arith, no-level _ _)
 raised-requires : tie.Need-raised-requires Inv-loop μ-loop
 raised-requires c κs = search needs
 
+returns : tie.Need-returns Inv-loop μ-loop
+returns c =
+    let L = c .before .before .before .loop in
+    let links = c .before .before .before .before .links-at in
+    let eight : (8 - L .n) + L .n ≡ 8 = omega arith in
+    last-level _ _ _ (rw eight at (still _ _ (links .result) (links .ensures) (L .n) _ _ (L .inv .1) (c .before .raised .ensures) (c .if1 .taken) (8 - L .n)))
+
 add-n : tie.Need-add-n Inv-loop μ-loop
 add-n c = omega arith
 
@@ -33,14 +40,15 @@ loop-less c = omega arith
 
 loop-again : tie.Need-loop-again Inv-loop μ-loop
 loop-again c =
-    let L = c .before .before .loop in
-    (omega arith, rw (add-one (L .n)) (next-level _ _ (c .before .before .before .links-at .result) (c .before .before .before .links-at .ensures) (L .n) _ _ (L .inv .1) (c .raised .ensures)))
+    let L = c .before .before .before .loop in
+    let links = c .before .before .before .before .links-at in
+    (omega arith, rw (add-one (L .n)) (next-level _ _ (links .result) (links .ensures) (L .n) _ _ (L .inv .1) (c .before .raised .ensures)))
 
-returns : tie.Need-returns Inv-loop μ-loop
-returns c =
+returns-2 : tie.Need-returns-2 Inv-loop μ-loop
+returns-2 c =
     let L = c .before .loop in
-    let e : L .n ≡ 8 = omega arith in
-    last-level _ _ _ (rw e at (L .inv .1))
+    let eight : L .n ≡ 8 = omega arith in
+    last-level _ _ _ (rw eight at (L .inv .1))
 
 pub standing-set-spec : {M : Type 1} → statement M
 standing-set-spec =
@@ -51,7 +59,8 @@ standing-set-spec =
     links-at-requires
     loop-holds
     raised-requires
+    returns
     add-n
     loop-less
     loop-again
-    returns)
+    returns-2)
