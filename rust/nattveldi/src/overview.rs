@@ -121,9 +121,7 @@ pub fn stored(store: &[u8], slot: usize) -> Result<Stored, Refusal> {
 /// }
 /// withdraw(&mut store, &id(&root)?)?;
 /// assert!(standing(&store, 49)?.is_empty()); // the ticket fell with it
-/// store[0] ^= 1; // a root under another id: no rule of a store is broken ..
-/// assert_eq!(standing(&store, 49), Ok(vec![]));
-/// store[16] = 0; // .. but an empty slot is all zero
+/// store[16] = 0; // now slot 0 is called empty, and is not all zero
 /// assert_eq!(standing(&store, 49), Err(Refusal::BadStore));
 /// # Ok::<(), Refusal>(())
 /// ```
