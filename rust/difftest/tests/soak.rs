@@ -9,8 +9,9 @@ use difftest::{lines, requests, seed};
 
 /// Few enough for seconds, enough for all that is not rare.
 const COUNT: u64 = 6_000;
-const OPERATIONS: [&str; 9] = [
-    "read", "id", "install", "admit", "list", "withdraw", "prepare", "decide", "page",
+const OPERATIONS: [&str; 11] = [
+    "read", "id", "install", "admit", "list", "withdraw", "stored", "standing", "prepare",
+    "decide", "page",
 ];
 
 fn run(words: &[&str]) -> Output {
