@@ -161,7 +161,7 @@ fn overview(living: &Living, random: &mut Random) -> Overview {
             made.second = questions::second(&member.entry, random);
         }
     }
-    let count = random.pick(&[0, 0, 0, 1]);
+    let count = random.pick(&[0, 0, 1]);
     trouble::make(&mut made, count, &generate_overview::TROUBLES, random);
     made
 }
