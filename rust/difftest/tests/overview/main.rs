@@ -5,6 +5,7 @@ mod asking;
 mod buffers;
 mod chains;
 mod entering;
+mod exhaustive;
 mod pages;
 mod random;
 mod slots;
