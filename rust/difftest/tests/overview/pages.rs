@@ -18,9 +18,9 @@ const STORES: u64 = 600;
 const FLOORS: [(&str, u64); 5] = [
     ("nothing fell", 100),
     ("some fell and some stand", 100),
-    ("all fell", 50),
-    ("withdrawn by a slot that stands", 500),
-    ("withdrawn by a slot of the list", 500),
+    ("all fell", 35),
+    ("withdrawn by a slot that stands", 1_000),
+    ("withdrawn by a slot of the list", 330),
 ];
 /// How many slots of a list are withdrawn at most.
 const MOST: usize = 6;

@@ -111,7 +111,7 @@ fn every_slot() {
     seed::tell(&format!(
         "every slot: {STORES} stores, slots empty {empty}, held {held}, withdrawn {withdrawn}"
     ));
-    let floors = [(empty, 500), (held, 500), (withdrawn, 100)];
+    let floors = [(empty, 1_000), (held, 400), (withdrawn, 10)];
     for (count, floor) in floors {
         assert!(count >= floor, "DIFFTEST_SEED={seed}: {counts:?}");
     }
