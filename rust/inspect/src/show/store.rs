@@ -75,7 +75,9 @@ impl Lines {
     fn listing(&mut self, slots: &Slots, own: &Slots, standing: Option<&[usize]>) {
         let fits = slots == own;
         if !fits {
-            self.label("layout", "DOES NOT FIT: this tool's own reading finds other slots than the library. The library's are given, without offsets.");
+            let unfit = "DOES NOT FIT: this tool's own reading finds other slots than the \
+                         library. The library's are given, without offsets.";
+            self.label("layout", unfit);
         }
         self.plain("");
         self.plain(if fits {
