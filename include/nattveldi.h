@@ -5,9 +5,9 @@
  * nattveldi_standing answer a count or minus one of the numbers, nattveldi_page
  * the length of a text. It writes nothing but the buffer that it names, and in a
  * refusal leaves that as it was, but for nattveldi_page, whose text says the
- * refusal. A pointer may be
- * anything if its length is 0; else it must be valid for that many octets, and
- * a buffer that is written must not overlap another argument.
+ * refusal. A pointer may be anything if its length is 0; else it must be valid
+ * for that many octets, and a buffer that is written must not overlap another
+ * argument.
  */
 #ifndef NATTVELDI_H
 #define NATTVELDI_H

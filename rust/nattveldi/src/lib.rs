@@ -6,11 +6,11 @@
 //! issuer that the store holds. [`stored`] tells what a slot of a store holds,
 //! and [`standing`] which of the certificates stand. [`list`] tells what the
 //! withdrawal of a certificate would take down, and [`withdraw`] withdraws it;
-//! [`page`] is the list as text. [`prepare`] tells what the chip is to be asked about a signed
-//! message, and [`decide`] accepts or refuses it. All take any octets of any
-//! length and either answer or give a [`Refusal`], which in a page is a text as
-//! well. Reading copies nothing out of a certificate or message: what the
-//! library found is named by [`Part`]s of the caller's octets.
+//! [`page`] is the list as text. [`prepare`] tells what the chip is to be asked
+//! about a signed message, and [`decide`] accepts or refuses it. All take any
+//! octets of any length and either answer or give a [`Refusal`], which in a page
+//! is a text as well. Reading copies nothing out of a certificate or message:
+//! what the library found is named by [`Part`]s of the caller's octets.
 //!
 //! ```
 //! use nattveldi::{id, read, Kind, Refusal};
