@@ -156,7 +156,7 @@ fn standing(living: &Living, random: &mut Random) -> Made {
 fn overview(living: &Living, random: &mut Random) -> Overview {
     let mut made = generate_overview::sound(random);
     if !random.once_in(OTHER_STORES) {
-        made.store = living.store.clone();
+        (made.store, made.contents) = (living.store.clone(), None);
         if let Some(member) = living.member(random) {
             made.second = questions::second(&member.entry, random);
         }

@@ -171,6 +171,11 @@ fn usage() {
     }
     let help = run(&["--help"], b"");
     assert!(help.status.success() && help.stdout.starts_with(b"answer [--reference]\n"));
+    let text = String::from_utf8(help.stdout).expect("text");
+    for request in ["stored STORE SLOT", "standing STORE SECOND LIST"] {
+        let said = text.lines().any(|line| line.trim() == request);
+        assert!(said, "{request}");
+    }
     let version = format!("answer {}", nattveldi::VERSION);
     assert_eq!(lines(&["--version"], b""), [version]);
 }

@@ -58,8 +58,6 @@ fn every_store_of_three() {
         }
     }
     assert_eq!(counts.iter().sum::<u64>(), 2 * 19 * 19 * 19);
-    // Three held roots stand, or one with two below it or with one below that
-    // one, or two with one below either: worked out by hand, in `all_stand`.
     assert_eq!(counts[3], 2 * all_stand());
 }
 
