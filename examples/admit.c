@@ -16,11 +16,11 @@
 #include <stdlib.h>
 
 #include "nattveldi.h"
+#include "row.h"
 
 /* One more than the longest certificate, so that a longer file is noticed. */
 #define MOST_OCTETS 1025
-#define SLOTS 64
-#define SLOT_LENGTH (NATTVELDI_STORE_LENGTH / SLOTS)
+#define SLOTS NATTVELDI_LIST_LENGTH
 /* The chip's octet for a good signature. Here no signature is checked. */
 #define GOOD 1
 
@@ -43,19 +43,17 @@ static size_t read_file(const char *name, uint8_t *octets)
     return length;
 }
 
-/* A slot starts with the id, 8 octets, and the issuer's; its state is the next
- * two bits: 0 empty, 1 held, 2 withdrawn. */
 static void print_slots(const uint8_t *store)
 {
-    int slot, i;
+    uint8_t stored[NATTVELDI_STORED_LENGTH];
+    int slot;
     for (slot = 0; slot < SLOTS; slot++) {
-        const uint8_t *octets = store + slot * SLOT_LENGTH;
-        if (octets[16] >> 6 == 0)
-            continue;
-        printf("slot %d ", slot);
-        for (i = 0; i < 8; i++)
-            printf("%02x", octets[i]);
-        printf("%s\n", octets[16] >> 6 == 1 ? "" : " withdrawn");
+        uint8_t number = nattveldi_stored(store, NATTVELDI_STORE_LENGTH, (size_t)slot, stored,
+                                          sizeof stored);
+        if (number != NATTVELDI_ACCEPTED)
+            continue; /* 7, it is empty: no other number is met in a store made here */
+        print_row(slot, stored);
+        printf("\n");
     }
 }
 

@@ -1,7 +1,8 @@
-/* Builds a store from a root and certificates below it, shows what the
- * withdrawal of the root would take down at a second, withdraws it, and prints
- * the filled slots. To build it, after `rt staticlib nattveldi_c` in the
- * repository's root:
+/* Builds a store from a root and certificates below it, and goes through the
+ * three pages of a console: what the store holds and what of it stands at a
+ * second; what the withdrawal of the root would take down; and, when that is
+ * withdrawn, what the store holds then. To build it, after
+ * `rt staticlib nattveldi_c` in the repository's root:
  *
  *   cc -std=c99 -Iinclude examples/withdraw.c target/staticlib/libnattveldi_c.a -o withdraw
  *
@@ -18,12 +19,11 @@
 #include <string.h>
 
 #include "nattveldi.h"
+#include "row.h"
 
 /* One more than the longest certificate, so that a longer file is noticed. */
 #define MOST_OCTETS 1025
 #define SLOTS NATTVELDI_LIST_LENGTH
-#define SLOT_LENGTH (NATTVELDI_STORE_LENGTH / SLOTS)
-#define ID_LENGTH 8
 /* The chip's octet for a good signature. Here no signature is checked. */
 #define GOOD 1
 
@@ -46,32 +46,55 @@ static size_t read_file(const char *name, uint8_t *octets)
     return length;
 }
 
-/* Installs the root and writes its id, or admits a certificate below it. */
-static uint8_t put(uint8_t *store, const char *name, int is_root, uint8_t *id)
+/* Installs the root, or admits a certificate below it. */
+static uint8_t put(uint8_t *store, const char *name, int is_root)
 {
     uint8_t certificate[MOST_OCTETS];
     size_t length = read_file(name, certificate);
     if (!is_root)
         return nattveldi_admit(store, NATTVELDI_STORE_LENGTH, certificate, length, GOOD);
-    nattveldi_id(certificate, length, id, ID_LENGTH);
     return nattveldi_install(store, NATTVELDI_STORE_LENGTH, certificate, length, GOOD);
 }
 
-/* A slot starts with the id; the state is two bits behind the issuer's id. */
-static void print_slot(const uint8_t *store, int slot)
+static uint8_t look(const uint8_t *store, int slot, uint8_t *stored)
 {
-    const uint8_t *octets = store + slot * SLOT_LENGTH;
-    int i;
-    printf("slot %d ", slot);
-    for (i = 0; i < ID_LENGTH; i++)
-        printf("%02x", octets[i]);
-    printf("%s\n", octets[16] >> 6 == 2 ? " withdrawn" : "");
+    return nattveldi_stored(store, NATTVELDI_STORE_LENGTH, (size_t)slot, stored,
+                            NATTVELDI_STORED_LENGTH);
 }
 
-/* What stands now and would not after the withdrawal, as a console shows it. */
+/* The page that lists: every certificate, and whether it stands. */
+static void print_overview(const uint8_t *store, uint32_t second)
+{
+    uint8_t list[NATTVELDI_LIST_LENGTH], stored[NATTVELDI_STORED_LENGTH];
+    int32_t slot, next = 0, n = nattveldi_standing(store, NATTVELDI_STORE_LENGTH, second, list,
+                                                   sizeof list);
+    if (n < 0) {
+        printf("standing refused %d\n", (int)-n);
+        return;
+    }
+    printf("%d stand at %lu:\n", (int)n, (unsigned long)second);
+    for (slot = 0; slot < SLOTS; slot++) {
+        int stands = next < n && list[next] == slot;
+        next += stands;
+        if (look(store, slot, stored) != NATTVELDI_ACCEPTED)
+            continue; /* 7, it is empty: 1 and 2 would have come from nattveldi_standing */
+        print_row(slot, stored);
+        printf(", %s\n", stands ? "stands" : "does not stand");
+    }
+}
+
+/* Picks the row of slot 0, as a user would. The id is all that is kept of it. */
+static void pick(const uint8_t *store, uint8_t *id)
+{
+    uint8_t stored[NATTVELDI_STORED_LENGTH];
+    if (look(store, 0, stored) == NATTVELDI_ACCEPTED)
+        memcpy(id, stored + NATTVELDI_STORED_ID, ID_LENGTH);
+}
+
+/* The page that asks: what stands now and would not after the withdrawal. */
 static void draw(const uint8_t *store, const uint8_t *id, uint32_t second)
 {
-    uint8_t list[NATTVELDI_LIST_LENGTH];
+    uint8_t list[NATTVELDI_LIST_LENGTH], stored[NATTVELDI_STORED_LENGTH];
     int32_t i, n = nattveldi_list(store, NATTVELDI_STORE_LENGTH, id, ID_LENGTH, second,
                                   list, sizeof list);
     if (n < 0) {
@@ -79,8 +102,11 @@ static void draw(const uint8_t *store, const uint8_t *id, uint32_t second)
         return;
     }
     printf("withdraw this? %d would no longer stand:\n", (int)n);
-    for (i = 0; i < n; i++)
-        print_slot(store, list[i]);
+    for (i = 0; i < n; i++) {
+        if (look(store, list[i], stored) == NATTVELDI_ACCEPTED)
+            print_row(list[i], stored);
+        printf("\n");
+    }
 }
 
 /* The same as the text of the program `page`. */
@@ -115,14 +141,14 @@ int main(int count, char **words)
         fail("usage: withdraw SECOND ROOT CERTIFICATE..", "");
     second = second_of(words[1]);
     for (i = 2; i < count; i++)
-        printf("%s %d\n", i == 2 ? "install" : "admit", put(store, words[i], i == 2, id));
+        printf("%s %d\n", i == 2 ? "install" : "admit", put(store, words[i], i == 2));
+    print_overview(store, second);
+    pick(store, id);
     draw(store, id, second);
     print_page(store, id, second);
     number = nattveldi_withdraw(store, sizeof store, id, sizeof id);
     printf("withdraw %d\n", number);
     draw(store, id, second);
-    for (i = 0; i < SLOTS; i++)
-        if (store[i * SLOT_LENGTH + 16] >> 6 != 0)
-            print_slot(store, i);
+    print_overview(store, second);
     return number != NATTVELDI_ACCEPTED;
 }

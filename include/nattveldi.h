@@ -1,12 +1,13 @@
 /* Nattveldi: road certificates (ETSI TS 103 097 V1.2.1), proved in Rattle.
  *
  * Every function takes any octets and any lengths and always returns. It
- * answers one of the numbers below, but for two: nattveldi_list answers a
- * count or minus one of the numbers, nattveldi_page the length of a text. It
- * writes nothing but the buffer that it names, and in a refusal leaves that as
- * it was, but for nattveldi_page, whose text says the refusal. A pointer may be
- * anything if its length is 0; else it must be valid for that many octets, and
- * a buffer that is written must not overlap another argument.
+ * answers one of the numbers below, but for three: nattveldi_list and
+ * nattveldi_standing answer a count or minus one of the numbers, nattveldi_page
+ * the length of a text. It writes nothing but the buffer that it names, and in a
+ * refusal leaves that as it was, but for nattveldi_page, whose text says the
+ * refusal. A pointer may be anything if its length is 0; else it must be valid
+ * for that many octets, and a buffer that is written must not overlap another
+ * argument.
  */
 #ifndef NATTVELDI_H
 #define NATTVELDI_H
@@ -21,13 +22,14 @@ extern "C" {
 /* The version of the library. It is given here alone: the bindings and the
  * installation read it from this line.
  */
-#define NATTVELDI_VERSION "1.0.1"
+#define NATTVELDI_VERSION "1.1.0"
 
 /* The answers. */
 enum {
     NATTVELDI_ACCEPTED = 0,
     NATTVELDI_BAD_CALL = 1,         /* a buffer is too short, a store is not 13,568 octets, an id not 8,
-                                     * a position is out of range, or an age is over 600,000,000 */
+                                     * a slot is above 63, a position is out of range, or an age is over
+                                     * 600,000,000 */
     NATTVELDI_BAD_STORE = 2,        /* a store against its own rules */
     NATTVELDI_TOO_LONG = 3,         /* a certificate of more than 1,024 octets, or a message of more than
                                      * 2,048 */
@@ -36,7 +38,7 @@ enum {
     NATTVELDI_UNSUPPORTED = 6,      /* a version, type or algorithm that is not read here, a number or length
                                      * over 268,435,455, a seventeenth permission or a fifth rectangle */
     NATTVELDI_UNKNOWN = 7,          /* an issuer, a message's signer, or the id that is asked for, is not in
-                                     * the store */
+                                     * the store, or the slot that is asked for is empty */
     NATTVELDI_WITHDRAWN = 8,        /* an issuer, a message's signer, or the certificate under the id, is
                                      * withdrawn */
     NATTVELDI_OTHER_CERTIFICATE = 9, /* the store has another certificate under the id of a message's */
@@ -129,19 +131,62 @@ uint8_t nattveldi_admit(uint8_t *store, size_t store_length,
                         const uint8_t *certificate, size_t certificate_length,
                         uint8_t verdict);
 
-/* How many octets the list of a withdrawal needs: one for each slot. */
+/* What a slot holds: 244 octets. The offsets below count octets. A word is 4
+ * octets, big-endian. Coordinates are words in two's complement, in tenths of a
+ * microdegree. Unused places are zero.
+ */
+#define NATTVELDI_STORED_LENGTH 244
+
+enum {
+    NATTVELDI_STORED_ID = 0,                 /* 8 octets */
+    NATTVELDI_STORED_ISSUER = 8,             /* the issuer's id, 8 octets; zero for a root */
+    NATTVELDI_STORED_STATE = 16,             /* word: 1 held, 2 withdrawn */
+    NATTVELDI_STORED_KIND = 20,              /* word: 1 ticket, 2 authority, 4 root */
+    NATTVELDI_STORED_START = 24,             /* word: the first second of the period */
+    NATTVELDI_STORED_END = 28,               /* 8 octets, big-endian: the first second after it */
+    NATTVELDI_STORED_NAME_LENGTH = 36,       /* word: 0 to 32 */
+    NATTVELDI_STORED_NAME = 40,              /* 32 octets: the name, then zeros */
+    NATTVELDI_STORED_KEY_PARITY = 72,        /* word: the key's point type less 2, so 0 or 1 */
+    NATTVELDI_STORED_KEY = 76,               /* the verification key's 32 octets */
+    NATTVELDI_STORED_RECTANGLE_COUNT = 108,  /* word: 0 to 4; 0 means everywhere */
+    NATTVELDI_STORED_RECTANGLES = 112,       /* 4 times north, west, south, east: words */
+    NATTVELDI_STORED_PERMISSION_COUNT = 176, /* word: 0 to 16 */
+    NATTVELDI_STORED_PERMISSIONS = 180       /* 16 ITS-AIDs: words */
+};
+
+/* Tells what slot `slot` of `store` holds, the slots counted from 0, and writes
+ * it to the first 244 octets of `stored`; the octets behind them stay. A
+ * withdrawn certificate is told as a held one is, but for its state. Answers 1
+ * if stored_length is under 244, store_length not 13,568 or slot above 63, then
+ * 2, then 7 if the slot is empty, in this order; in a refusal `stored` stays as
+ * it was. A slot is a size_t so that no number of a caller loses its high bits
+ * on the way and becomes another slot.
+ */
+uint8_t nattveldi_stored(const uint8_t *store, size_t store_length, size_t slot,
+                         uint8_t *stored, size_t stored_length);
+
+/* How many octets a list of slots needs: one for each slot. */
 #define NATTVELDI_LIST_LENGTH 64
 
+/* Finds the certificates that stand at `second` as `store` is. A certificate
+ * stands if its chain of issuers reaches a root within eight certificates, each
+ * of them held, in its period and issued within the limits of the next. Writes
+ * their slot numbers, ascending, to the first octets of `list`; the octets
+ * behind them stay. Answers how many they are, 0 to 64, or minus the number of
+ * the refusal: -1 if list_length is under 64 or store_length not 13,568, then
+ * -2. In a refusal `list` stays as it was.
+ */
+int32_t nattveldi_standing(const uint8_t *store, size_t store_length, uint32_t second,
+                           uint8_t *list, size_t list_length);
+
 /* What the withdrawal of an id would take down: finds the certificates that
- * stand at `second` as `store` is, and would not stand if the certificate under
- * `id`, 8 octets, were withdrawn. A certificate stands if its chain of issuers
- * reaches a root within eight certificates, each of them held, in its period
- * and issued within the limits of the next. Writes their slot numbers,
- * ascending, to the first octets of `list`; the octets behind them stay.
- * Answers how many they are, 0 to 64, which is 0 if the certificate under `id`
- * does not stand itself; or minus the number of the refusal: -1 if store_length
- * is not 13,568, id_length not 8 or list_length under 64, then -2, -7, -8, in
- * this order. In a refusal `list` stays as it was.
+ * stand at `second` as `store` is, as nattveldi_standing finds them, and would
+ * not stand if the certificate under `id`, 8 octets, were withdrawn. Writes
+ * their slot numbers, ascending, to the first octets of `list`; the octets
+ * behind them stay. Answers how many they are, 0 to 64, which is 0 if the
+ * certificate under `id` does not stand itself; or minus the number of the
+ * refusal: -1 if store_length is not 13,568, id_length not 8 or list_length
+ * under 64, then -2, -7, -8, in this order. In a refusal `list` stays as it was.
  */
 int32_t nattveldi_list(const uint8_t *store, size_t store_length,
                        const uint8_t *id, size_t id_length, uint32_t second,

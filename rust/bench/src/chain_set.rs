@@ -13,13 +13,13 @@ use crate::set::Set;
 
 const STORES: usize = 20;
 /// As long as a chain can be whose last certificate stands.
-const CHAIN: usize = 8;
+pub const CHAIN: usize = 8;
 /// A second at which all stand.
-const SECOND: u32 = 500;
+pub const SECOND: u32 = 500;
 
 /// How much a certificate has to compare with its issuer.
 #[derive(Clone, Copy)]
-enum Size {
+pub enum Size {
     /// A rectangle and three permissions.
     Bounded,
     /// No region and one permission.
@@ -51,7 +51,7 @@ fn question(size: Size, random: &mut Random) -> Vec<u8> {
 
 /// Each certificate has a second less at each end of its period than its
 /// issuer, and its rectangle lies inside the issuer's.
-fn chain(size: Size, random: &mut Random) -> Vec<Entry> {
+pub fn chain(size: Size, random: &mut Random) -> Vec<Entry> {
     let mut issuer = [0; 8];
     let mut link = |depth: usize| {
         let by = depth as i32;

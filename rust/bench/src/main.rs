@@ -12,6 +12,8 @@ mod measure;
 mod message_set;
 mod message_store;
 mod messages;
+mod overview_set;
+mod overviews;
 mod set;
 mod store_set;
 mod stores;
@@ -71,6 +73,7 @@ fn bench(rounds: usize) {
     let certificates = set::certificates(SEED);
     let mut stores = stores::rows(SEED);
     stores.extend(chains::rows(SEED));
+    stores.extend(overviews::rows(SEED));
     stores.extend(messages::rows(SEED));
     let hashed = digests::sets(SEED);
     let mut contests: Vec<Contest> = certificates

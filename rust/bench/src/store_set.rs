@@ -12,7 +12,7 @@ use difftest::slot::SLOTS;
 use crate::set::Set;
 
 /// How many stores, slots and requests a set has.
-const STORES: usize = 20;
+pub const STORES: usize = 20;
 const RECORDS: usize = 500;
 
 /// Full of large records and of small ones, half filled, and empty.
@@ -87,7 +87,7 @@ fn request(operation: Operation, number: u8, random: &mut Random) -> Vec<u8> {
     [change.store, change.certificate].concat()
 }
 
-fn large(random: &mut Random) -> Entry {
+pub fn large(random: &mut Random) -> Entry {
     Entry {
         name: random.octets(32),
         rectangles: (0..4).map(|_| plan::rectangle(random)).collect(),
@@ -96,7 +96,7 @@ fn large(random: &mut Random) -> Entry {
     }
 }
 
-fn small(random: &mut Random) -> Entry {
+pub fn small(random: &mut Random) -> Entry {
     Entry {
         name: random.octets(4),
         rectangles: vec![plan::rectangle(random)],

@@ -1,8 +1,9 @@
 //! Answer lines, in the format of `vectors/README.md`.
 
 mod message;
+mod overview;
 
-use nattveldi::raw::{word_at, ACCEPTED};
+use nattveldi::raw::{word_at, ACCEPTED, STORED_LENGTH};
 
 use crate::changes::Changed;
 use crate::hex;
@@ -30,6 +31,8 @@ pub fn to_request(side: Side, request: &Request) -> String {
         Request::Change(change) => changed(&change.ask(side)),
         Request::List(list) => listed(&list.ask(side)),
         Request::Withdraw(withdrawal) => changed(&withdrawal.ask(side)),
+        Request::Stored(lookup) => overview::stored(&lookup.ask(side, &[0; STORED_LENGTH])),
+        Request::Standing(standing) => listed(&standing.ask(side)),
         Request::Page { input } => hex::text(pages::ask(side, input).text()),
         Request::Prepare(judgement) => message::prepared(&judgement.prepare(side)),
         Request::Decide(judgement, verdicts) => {
@@ -55,7 +58,7 @@ fn listed(answer: &Listed) -> String {
 }
 
 /// `NUMBER`, and where it is 0 also `KIND ISSUER NAME PARITY KEY ASSURANCE
-/// START END RECTANGLES PERMISSIONS SIGNATURE_AT`
+/// START END REGION PERMISSIONS SIGNATURE_AT`
 pub fn reading(certificate: &[u8], answer: &Reading) -> String {
     if answer.number != ACCEPTED {
         return answer.number.to_string();

@@ -1,6 +1,7 @@
 //! The sides held against each other, field by field.
 
 pub mod message;
+pub mod overview;
 pub mod withdrawal;
 
 use nattveldi::raw::word_at;

@@ -6,13 +6,14 @@
 //!   layout, [`wire`] its octets; [`faults`] breaks the layout, [`damage`] the
 //!   octets; [`generate`] chooses among all of these.
 //! - Random stores: [`slot`] has a slot's bits, [`mod@entry`] what they say;
-//!   [`spoil`] damages its octets.
+//!   [`spoil`] damages its octets. [`by_hand`] has some that are not random.
 //! - Putting a certificate in: [`scene`] makes up a request, below an issuer of
 //!   [`issuers`] or, in a store that grows, of [`growth`]; [`troubles`] has the
 //!   reasons to refuse it, [`expect`] the paper's answer.
 //! - Withdrawing one: [`forest`] makes up a store of chains, [`flaws`] breaks
 //!   them, [`questions`] asks about one of its certificates; [`standing`] says
 //!   what stands, [`outcome`] is the paper's answer.
+//! - Looking into a store: [`overview`].
 //! - Signed messages: [`message`], with ids worked out in [`sha256`].
 //! - [`trouble`] makes sound requests bad; [`counts`] has what came up in a run;
 //!   [`buffers`] is about what the caller lends.
@@ -23,6 +24,7 @@
 
 pub mod answers;
 pub mod buffers;
+pub mod by_hand;
 pub mod changes;
 pub mod compare;
 pub mod counts;
@@ -42,6 +44,7 @@ pub mod lines;
 pub mod lists;
 pub mod message;
 pub mod outcome;
+pub mod overview;
 pub mod pages;
 pub mod plan;
 pub mod questions;

@@ -18,6 +18,8 @@ pub fn operation(request: &Request) -> &'static str {
         Request::Change(_) => "admit",
         Request::List(_) => "list",
         Request::Withdraw(_) => "withdraw",
+        Request::Stored(_) => "stored",
+        Request::Standing(_) => "standing",
         Request::Prepare(_) => "prepare",
         Request::Decide(..) => "decide",
         Request::Page { .. } => "page",
@@ -39,6 +41,11 @@ fn words(request: &Request) -> String {
         Request::List(request) => list(request),
         Request::Withdraw(request) => {
             format!("{} {}", hex::text(&request.store), hex::text(&request.id))
+        }
+        Request::Stored(request) => format!("{} {}", hex::text(&request.store), request.slot),
+        Request::Standing(request) => {
+            let (store, list) = (hex::text(&request.store), hex::text(&request.list));
+            format!("{store} {} {list}", request.second)
         }
         Request::Prepare(request) => judgement(request),
         Request::Decide(request, verdicts) => format!(
@@ -90,6 +97,8 @@ mod tests {
             "admit - - 1",
             "list 00 0b 4294967295 eeee",
             "withdraw 00 0b",
+            "stored 000b 18446744073709551615",
+            "standing 00 4294967295 eeee",
             "prepare 00 0b 18446744073709551615 -2147483648 2147483647 5",
             "decide 00 0b 1 -2 3 4 255 0",
             "page 000b",

@@ -23,6 +23,31 @@ pub struct Listed {
     pub list: Vec<u8>,
 }
 
+impl Listed {
+    /// An answer, and the list that it left.
+    pub fn of(answer: Result<usize, u8>, list: Vec<u8>) -> Listed {
+        Listed {
+            number: answer.err().unwrap_or(ACCEPTED),
+            n: answer.unwrap_or(0),
+            list,
+        }
+    }
+}
+
+/// What a C function's answer says: n, or minus a number.
+pub(crate) fn counted(answer: i32) -> Result<usize, u8> {
+    let number = || u8::try_from(answer.unsigned_abs()).expect("minus a number");
+    usize::try_from(answer).map_err(|_| number())
+}
+
+/// Puts slots at the front of a list, and answers how many.
+pub(crate) fn put(slots: &[usize], list: &mut [u8]) -> usize {
+    for (place, slot) in list.iter_mut().zip(slots) {
+        *place = u8::try_from(*slot).expect("the number of a slot");
+    }
+    slots.len()
+}
+
 impl List {
     /// A side's answer. The request stays as it is.
     pub fn ask(&self, side: Side) -> Listed {
@@ -32,17 +57,11 @@ impl List {
             Side::Bindings => self.ask_bindings(&mut list),
             Side::Reference => reference::list(&self.store, &self.id, self.second, &mut list),
         };
-        Listed {
-            number: answer.err().unwrap_or(ACCEPTED),
-            n: answer.unwrap_or(0),
-            list,
-        }
+        Listed::of(answer, list)
     }
 
     fn ask_library(&self, list: &mut [u8]) -> Result<usize, u8> {
-        let answer = raw::list(&self.store, &self.id, self.second, list);
-        let number = || u8::try_from(answer.unsigned_abs()).expect("minus a number");
-        usize::try_from(answer).map_err(|_| number())
+        counted(raw::list(&self.store, &self.id, self.second, list))
     }
 
     /// The bindings lend a list of their own, which is never too short: with a
@@ -53,9 +72,6 @@ impl List {
         }
         let answer = nattveldi::list(&self.store, &self.id, self.second);
         let slots = answer.map_err(|refusal| refusal.number())?;
-        for (place, slot) in list.iter_mut().zip(&slots) {
-            *place = u8::try_from(*slot).expect("the number of a slot");
-        }
-        Ok(slots.len())
+        Ok(put(&slots, list))
     }
 }

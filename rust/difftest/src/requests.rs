@@ -8,6 +8,8 @@ use crate::changes::{Change, Operation};
 use crate::hex;
 use crate::judgements::{Judgement, Verdicts};
 use crate::lists::List;
+use crate::overview::lookups::Lookup;
+use crate::overview::standings::Standing;
 use crate::withdrawals::Withdrawal;
 
 /// A request that is answered.
@@ -18,6 +20,8 @@ pub enum Request {
     Change(Change),
     List(List),
     Withdraw(Withdrawal),
+    Stored(Lookup),
+    Standing(Standing),
     Page { input: Vec<u8> },
     Prepare(Judgement),
     Decide(Judgement, Verdicts),
@@ -35,13 +39,15 @@ pub enum Fault {
 type Parser = fn(&[&str]) -> Option<Request>;
 
 /// The format's requests.
-const KINDS: [(&str, Parser); 9] = [
+const KINDS: [(&str, Parser); 11] = [
     ("read", read),
     ("id", id),
     ("install", install),
     ("admit", admit),
     ("list", list),
     ("withdraw", withdraw),
+    ("stored", stored),
+    ("standing", standing),
     ("prepare", prepare),
     ("decide", decide),
     ("page", page),
@@ -109,6 +115,25 @@ fn withdraw(words: &[&str]) -> Option<Request> {
     Some(Request::Withdraw(Withdrawal {
         store: hex::octets(store)?,
         id: hex::octets(id)?,
+    }))
+}
+
+fn stored(words: &[&str]) -> Option<Request> {
+    let [store, slot] = words else { return None };
+    Some(Request::Stored(Lookup {
+        store: hex::octets(store)?,
+        slot: number(slot)?,
+    }))
+}
+
+fn standing(words: &[&str]) -> Option<Request> {
+    let [store, second, list] = words else {
+        return None;
+    };
+    Some(Request::Standing(Standing {
+        store: hex::octets(store)?,
+        second: number(second)?,
+        list: hex::octets(list)?,
     }))
 }
 
@@ -224,6 +249,41 @@ mod tests {
             "page",
             "page - -",
             "page 0",
+        ] {
+            assert_eq!(parse(line), Err(Fault::Unparsed), "{line}");
+        }
+    }
+
+    #[test]
+    fn overviews() {
+        let (store, slot) = (vec![0, 0], u64::MAX);
+        let lookup = Lookup {
+            store: store.clone(),
+            slot,
+        };
+        let line = "stored (2) 18446744073709551615";
+        assert_eq!(parse(line), Ok(Request::Stored(lookup)));
+        let standing = Standing {
+            store,
+            second: u32::MAX,
+            list: vec![0xee; 2],
+        };
+        let line = "standing (2) 4294967295 eeee";
+        assert_eq!(parse(line), Ok(Request::Standing(standing)));
+        for line in [
+            "stored -",
+            "stored - 0 0",
+            "stored - 18446744073709551616",
+            "stored - -1",
+            "stored - -",
+            "stored - ",
+            "stored 0 0",
+            "standing - 0",
+            "standing - 0 - -",
+            "standing - 4294967296 -",
+            "standing - -1 -",
+            "standing - - -",
+            "standing - 0 0",
         ] {
             assert_eq!(parse(line), Err(Fault::Unparsed), "{line}");
         }

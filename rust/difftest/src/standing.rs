@@ -64,6 +64,33 @@ pub fn upward<'a>(slots: &'a Slots, certificate: &'a Entry) -> impl Iterator<Ite
     std::iter::successors(Some(certificate), above)
 }
 
+/// The certificates from one upward; more than a store has, in a ring.
+pub fn chain<'a>(slots: &'a Slots, certificate: &'a Entry) -> impl Iterator<Item = &'a Entry> {
+    upward(slots, certificate).take(SLOTS + 1)
+}
+
+/// Whether a certificate stands, and in which chain, or why not; for counts.
+pub fn told(slots: &Slots, certificate: &Entry, second: u32) -> String {
+    let period = u64::from(certificate.start)..certificate.end;
+    match walk(slots, certificate, second) {
+        Ok(length) => format!("stands in a chain of {length}"),
+        Err(CHAIN_TOO_LONG) => too_long(chain(slots, certificate).count()),
+        Err(12) if period.contains(&second.into()) => "does not stand, 12 further up".into(),
+        Err(12) => "does not stand, 12 at the second".into(),
+        Err(number) => format!("does not stand, {number}"),
+    }
+}
+
+fn too_long(length: usize) -> String {
+    let which = match length {
+        ..=9 => "a chain of 9",
+        10..=12 => "a chain of 10 to 12",
+        13..=SLOTS => "a longer chain",
+        _ => "a ring",
+    };
+    format!("does not stand, 18 in {which}")
+}
+
 /// "Edges belong to it"; no rectangles are everywhere.
 fn holds(certificate: &Entry, (latitude, longitude): Place) -> bool {
     let inside = |&[north, west, south, east]: &Rectangle| {

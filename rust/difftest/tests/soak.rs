@@ -9,8 +9,9 @@ use difftest::{lines, requests, seed};
 
 /// Few enough for seconds, enough for all that is not rare.
 const COUNT: u64 = 6_000;
-const OPERATIONS: [&str; 9] = [
-    "read", "id", "install", "admit", "list", "withdraw", "prepare", "decide", "page",
+const OPERATIONS: [&str; 11] = [
+    "read", "id", "install", "admit", "list", "withdraw", "stored", "standing", "prepare",
+    "decide", "page",
 ];
 
 fn run(words: &[&str]) -> Output {
@@ -93,14 +94,32 @@ fn wrong_answer(call: &Call) -> Given {
     given
 }
 
+fn wrong_stored(call: &Call) -> Given {
+    let mut given = call::library(call);
+    if lines::operation(&call.request) == "stored" && given.answer == 0 {
+        given.lent[243] ^= 1;
+    }
+    given
+}
+
+fn wrong_standing(call: &Call) -> Given {
+    let mut given = call::library(call);
+    if lines::operation(&call.request) == "standing" && given.answer == 2 {
+        given.answer = 3;
+    }
+    given
+}
+
 /// A difference ends the run, and the request that is told is the one on which
 /// the sides differ.
 #[test]
 fn differences_are_told() {
-    let wrong: [(Ask, &str, &str); 3] = [
+    let wrong: [(Ask, &str, &str); 5] = [
         (wrong_buffer, "decide ", "lent buffer, octet 27: "),
         (wrong_store, "list ", "store, octet 13567: "),
         (wrong_answer, "admit ", "answer 13 against 12\n"),
+        (wrong_stored, "stored ", "lent buffer, octet 243: "),
+        (wrong_standing, "standing ", "answer 3 against 2\n"),
     ];
     for (library, operation, difference) in wrong {
         let said = soak::run(7, COUNT, library, |_| ()).err();

@@ -6,10 +6,10 @@ nattveldi-inspect COMMAND ..
 Prints road certificates, messages and stores (ETSI TS 103 097 V1.2.1) in
 readable form, and explains what the proved library answers about them.
 
-Every verdict (accepted or refused, the number, ids, what stands, questions) is
-the proved library's. Layout, offsets and explanations are this tool's own
-reading, for display only; where they do not fit the library's verdict, the
-output says so.
+Every verdict (accepted or refused, the number, ids, what the slots of a valid
+store hold, what stands, questions) is the proved library's. Layout, offsets and
+explanations are this tool's own reading, for display only, and so are the slots
+of a bad store; where they do not fit the library's verdict, the output says so.
 
 Looking:
   certificate [FILE]           fields, offsets, id; if refused, why and where

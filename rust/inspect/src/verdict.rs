@@ -25,19 +25,10 @@ pub fn message(octets: &[u8]) -> u8 {
     }
 }
 
-/// The library's number on a store. List judges the store before it looks for
-/// the id, so any other answer than 1 or 2 says that the store is valid.
+/// The library's number on a store. What stands, at any second, is refused for
+/// the store alone.
 pub fn store(octets: &[u8]) -> u8 {
-    match number(&nattveldi::list(octets, &[0; 8], 0)) {
-        refused @ 1..=2 => refused,
-        _ => 0,
-    }
-}
-
-/// Whether the certificate in a slot stands at a second: the library lists it
-/// under its own id exactly if it does.
-pub fn stands(store: &[u8], slot: usize, id: &[u8; 8], second: u32) -> bool {
-    nattveldi::list(store, id, second).is_ok_and(|slots| slots.contains(&slot))
+    number(&nattveldi::standing(octets, 0))
 }
 
 /// 0 if the library accepts, else the number by which it refuses.

@@ -9,8 +9,9 @@ use std::collections::BTreeMap;
 use common::random::Random;
 use common::{example, slots};
 use inspect::reading::{self, Field, Reading};
-use inspect::store::first_broken;
+use inspect::store::{first_broken, Record, Slots};
 use inspect::{example as built, verdict};
+use nattveldi::{Rectangle, Refusal};
 
 const INPUTS: usize = 20_000;
 
@@ -202,9 +203,95 @@ fn damaged_stores() {
         let broken = first_broken(&store);
         assert_eq!(u8::from(broken.is_some()) * 2, library, "{broken:?}");
         assert!(broken.is_none_or(|broken| broken.offset() < store.len()));
+        let expected = match library {
+            0 => Ok(Slots::own_reading(&store)),
+            _ => Err(Refusal::BadStore),
+        };
+        assert_eq!(Slots::of(&store), expected);
         counts.count(library);
     }
     counts.at_least(300, &[0, 2]);
+}
+
+/// Any values that the rules of a store allow.
+fn random_slot(random: &mut Random, id: u8) -> slots::Slot {
+    let kind = random.of(&[1, 2, 4]);
+    let start = random.next() >> 32;
+    let end = start + 1 + random.next() % (262_777_739_970 - start);
+    let mut slot = slots::Slot::new(
+        id,
+        if kind == 4 { 0 } else { random.octet() },
+        kind,
+        start,
+        end,
+    );
+    slot.state = random.of(&[1, 2]);
+    slot.name = (0..random.below(33)).map(|_| random.octet()).collect();
+    slot.parity = random.of(&[0, 1]);
+    slot.key = std::array::from_fn(|_| random.octet());
+    slot.rectangles = (0..random.below(5))
+        .map(|_| random_rectangle(random))
+        .collect();
+    slot.permissions = (0..random.below(17)).map(|_| random.next() >> 36).collect();
+    slot
+}
+
+fn random_rectangle(random: &mut Random) -> [i32; 4] {
+    let south = random.below(900_000_000) as i32 - 900_000_000;
+    let west = random.below(1_800_000_000) as i32 - 1_800_000_000;
+    let [north, east] = [south, west].map(|edge| edge + 1 + random.below(900_000_000) as i32);
+    [north, west, south, east]
+}
+
+fn record(slot: &slots::Slot) -> Record {
+    let rectangle = |&[north, west, south, east]: &[i32; 4]| Rectangle {
+        north,
+        west,
+        south,
+        east,
+    };
+    Record {
+        id: slot.id,
+        issuer: slot.issuer,
+        state: slot.state as u8,
+        kind: slot.kind as u8,
+        start: slot.start,
+        end: slot.end,
+        name_length: slot.name.len(),
+        name: slot.name.clone(),
+        key_type: 2 + slot.parity as u8,
+        key: slot.key.to_vec(),
+        rectangle_count: slot.rectangles.len(),
+        rectangles: slot.rectangles.iter().map(rectangle).collect(),
+        permission_count: slot.permissions.len(),
+        permissions: slot.permissions.iter().map(|&p| p as u32).collect(),
+    }
+}
+
+/// What was written to a slot is what the library tells of it, and what this tool
+/// reads there.
+#[test]
+fn slots_as_they_were_written() {
+    let mut random = Random::new(0x5107);
+    for _ in 0..300 {
+        let ids = 1..=random.below(65) as u8;
+        let written: Vec<slots::Slot> = ids.map(|id| random_slot(&mut random, id)).collect();
+        let store = slots::store(&written);
+        let expected: Vec<(usize, Record)> = written.iter().map(record).enumerate().collect();
+        for slots in [
+            Slots::of(&store).expect("a valid store"),
+            Slots::own_reading(&store),
+        ] {
+            assert_eq!(slots.count(), expected.len());
+            assert_eq!(
+                slots.first_empty(),
+                (expected.len() < 64).then_some(expected.len())
+            );
+            for ((slot, found), (at, record)) in slots.iter().zip(&expected) {
+                assert_eq!((slot, found), (*at, record));
+            }
+        }
+    }
 }
 
 /// The edges of document 01's rules: the latest end, the poles, and edges and

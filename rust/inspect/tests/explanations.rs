@@ -234,6 +234,9 @@ fn lists() {
         *counts.entry(own.explanation.number).or_default() += 1;
         let listed = answer.unwrap_or_default();
         assert_eq!(own.slots, listed, "{id:?} at {second} in {slots:#?}");
+        // Nor does the own walk find another certificate standing than the library.
+        let lines = format!("{:#?}", own.explanation.steps.lines);
+        assert!(!lines.contains("DOES NOT FIT"), "{lines}");
         fallen += listed.len();
     }
     met(&counts, &[0, 7, 8], 50);

@@ -3,7 +3,12 @@
 
 mod common;
 
+use common::slots::{self, Slot};
 use common::{example, example_path, file, has_line, has_whole_line, run};
+
+/// Who says what the slots hold: of a valid store, and of a bad one.
+const THE_LIBRARY: &str = "(what they hold: the proved library)";
+const THIS_TOOL: &str = "(this tool's own reading: of a bad store the library tells nothing)";
 
 fn papers_store() -> Vec<u8> {
     example("page.hex")[..13_568].to_vec()
@@ -21,6 +26,7 @@ fn the_slots() {
     for line in [
         "verdict a valid store",
         "slots 6 filled, 58 empty",
+        THE_LIBRARY,
         "standing asked for TAI second 220 = 2004-01-01 00:03:40 UTC",
         title,
         "212.0 64 id 0202020202020202",
@@ -37,6 +43,69 @@ fn the_slots() {
         "367.2 28 permission ITS-AID 36",
     ] {
         has_whole_line(&answer, line);
+    }
+}
+
+/// Every field is in use, and each number has its highest bit set if a rule
+/// allows that.
+fn full_slot() -> Slot {
+    let mut slot = Slot::new(0x81, 0x92, 2, 0x8000_0001, 262_777_739_970);
+    slot.state = 2;
+    slot.name = (b'A'..b'A' + 32).collect();
+    slot.parity = 1;
+    slot.key = std::array::from_fn(|i| 0xe0 + i as u8);
+    slot.rectangles = vec![
+        [900_000_000, -1_800_000_000, -900_000_000, 1_800_000_000],
+        [1, 2, -3, 4],
+        [5, -7, 4, -6],
+        [-8, 9, -10, 11],
+    ];
+    slot.permissions = (0..16).map(|i| 268_435_455 - i).collect();
+    slot
+}
+
+#[test]
+fn a_full_slot() {
+    let answer = run(&["store", "--at", "5"], &slots::store(&[full_slot()]));
+    assert_eq!((answer.status, &answer.err[..]), (0, ""));
+    let name: String = (b'A'..=b'`').map(char::from).collect();
+    has_line(&answer, &["slot 0, ", &name, ", withdrawn, does not stand"]);
+    has_line(&answer, &["20.5    38  end ", "TAI second 262777739970"]);
+    let key: String = (0xe0..=0xff)
+        .map(|octet: u8| format!("{octet:02x}"))
+        .collect();
+    has_whole_line(&answer, &format!("58.2 256 key {key}"));
+    for line in [
+        "8.0 64 issuer 9292929292929292",
+        "16.0 2 state 2 (withdrawn)",
+        "16.5 32 start TAI second 2147483649 = 2072-01-19 03:14:04 UTC",
+        "25.3 6 name length 32",
+        "58.1 1 key parity 1 (point type 3)",
+        "90.2 3 rectangle count 4",
+        "90.5 128 rectangle north 90.0000000, west -180.0000000, \
+         south -90.0000000, east 180.0000000 degrees",
+        "106.5 128 rectangle north 0.0000001, west 0.0000002, \
+         south -0.0000003, east 0.0000004 degrees",
+        "138.5 128 rectangle north -0.0000008, west 0.0000009, \
+         south -0.0000010, east 0.0000011 degrees",
+        "154.5 5 permission count 16",
+        "155.2 28 permission ITS-AID 268435455",
+        "207.6 28 permission ITS-AID 268435440",
+    ] {
+        has_whole_line(&answer, line);
+    }
+}
+
+#[test]
+fn the_last_slot() {
+    let mut store = papers_store();
+    let root = Slot::new(0x83, 0, 4, 220, 221);
+    store[63 * 212..].copy_from_slice(&root.octets());
+    for (second, stands) in [("220", "stands"), ("221", "does not stand")] {
+        let answer = run(&["store", "--at", second], &store);
+        has_whole_line(&answer, "slots 7 filled, 57 empty");
+        let title = "slot 63, octets 13356 to 13567: root 8383838383838383 without a name";
+        has_whole_line(&answer, &format!("{title}, held, {stands}"));
     }
 }
 
@@ -85,8 +154,13 @@ fn bad_stores() {
         assert_eq!(answer.status, 1, "{}", answer.out);
         has_line(&answer, &["verdict ", "refused 2, bad store"]);
         has_line(&answer, &["fault ", fault]);
-        // The library says of no certificate of a bad store whether it stands.
-        assert!(!answer.out.contains("standing "), "{}", answer.out);
+        // The library says of no certificate of a bad store what it is, or
+        // whether it stands.
+        has_whole_line(&answer, THIS_TOOL);
+        assert!(!answer.out.contains(THE_LIBRARY), "{}", answer.out);
+        for words in ["standing ", ", stands", ", does not stand"] {
+            assert!(!answer.out.contains(words), "{}", answer.out);
+        }
     }
     let mut store = papers_store();
     store[3 * 212..][..8].fill(3); // slot 3 gets the id of slot 2
@@ -98,6 +172,7 @@ fn bad_stores() {
     let answer = run(&["store"], &store[1..]);
     assert_eq!(answer.status, 1);
     has_line(&answer, &["verdict ", "refused 1, bad call"]);
+    assert!(!answer.out.contains("slot 0"), "{}", answer.out);
 }
 
 /// A row gives the number that its fault gives.
@@ -197,6 +272,6 @@ fn a_withdrawal() {
     assert_eq!(answer.status, 1);
     has_line(&answer, &["FAIL  8 withdrawn", "it is not withdrawn yet"]);
     let answer = run(&["store", &after, "--at", "220"], b"");
-    has_line(&answer, &["slot 1, ", "withdrawn"]);
+    has_line(&answer, &["slot 1, ", ", withdrawn, does not stand"]);
     has_line(&answer, &["slot 2, ", "held, does not stand"]);
 }

@@ -39,6 +39,14 @@ pub enum Kind {
     Root = 4,
 }
 
+impl Kind {
+    /// The kind that has this number, if there is one.
+    pub(crate) fn from_number(number: u32) -> Option<Kind> {
+        let kinds = [Kind::Ticket, Kind::Authority, Kind::Root];
+        kinds.into_iter().find(|kind| *kind as u32 == number)
+    }
+}
+
 /// How a point of the curve is given.
 #[derive(Clone, Copy, Debug, PartialEq, Eq, Hash)]
 #[repr(u8)]
@@ -104,6 +112,18 @@ pub struct Rectangle {
     pub south: i32,
     /// The longitude of the east edge.
     pub east: i32,
+}
+
+impl Rectangle {
+    /// A rectangle of four edges, in the order in which the library writes them.
+    pub(crate) fn from_edges(edge: impl Fn(usize) -> u32) -> Rectangle {
+        Rectangle {
+            north: edge(0) as i32,
+            west: edge(1) as i32,
+            south: edge(2) as i32,
+            east: edge(3) as i32,
+        }
+    }
 }
 
 /// A signature as it stands in the certificate. It is not checked here.
@@ -217,12 +237,8 @@ impl Fields<'_> {
     }
 
     fn kind(&self) -> Kind {
-        match self.word(word_at::KIND) {
-            1 => Kind::Ticket,
-            2 => Kind::Authority,
-            4 => Kind::Root,
-            other => unfit(word_at::KIND, other),
-        }
+        let number = self.word(word_at::KIND);
+        Kind::from_number(number).unwrap_or_else(|| unfit(word_at::KIND, number))
     }
 
     fn point_type(&self, at: usize) -> PointType {
@@ -272,13 +288,7 @@ impl Fields<'_> {
     }
 
     fn rectangle(&self, index: usize) -> Rectangle {
-        let edge = |i| self.word(word_at::RECTANGLES + 4 * index + i) as i32;
-        Rectangle {
-            north: edge(0),
-            west: edge(1),
-            south: edge(2),
-            east: edge(3),
-        }
+        Rectangle::from_edges(|i| self.word(word_at::RECTANGLES + 4 * index + i))
     }
 
     fn permission(&self, index: usize) -> Permission {

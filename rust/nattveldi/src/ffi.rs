@@ -34,6 +34,22 @@ mod c {
             verdict: u8,
         ) -> u8;
 
+        pub fn nattveldi_stored(
+            store: *const u8,
+            store_length: usize,
+            slot: usize,
+            stored: *mut u8,
+            stored_length: usize,
+        ) -> u8;
+
+        pub fn nattveldi_standing(
+            store: *const u8,
+            store_length: usize,
+            second: u32,
+            list: *mut u8,
+            list_length: usize,
+        ) -> i32;
+
         pub fn nattveldi_list(
             store: *const u8,
             store_length: usize,
@@ -169,6 +185,53 @@ pub fn admit(store: &mut [u8], certificate: &[u8], verdict: u8) -> u8 {
             certificate.as_ptr(),
             certificate.len(),
             verdict,
+        )
+    }
+}
+
+/// Writes what a slot of a store holds to the first 244 octets of `stored`; the
+/// octets behind them stay. The answer is 1 if `stored` has fewer, `store` has
+/// not 13,568 octets, or the slot is above 63; 7 if the slot is empty. In a
+/// refusal `stored` stays as it was.
+///
+/// ```
+/// let mut stored = [7; 244];
+/// assert_eq!(nattveldi::raw::stored(&nattveldi::empty_store(), 63, &mut stored), 7);
+/// assert_eq!(nattveldi::raw::stored(&nattveldi::empty_store(), 64, &mut stored), 1);
+/// assert_eq!(stored, [7; 244]);
+/// ```
+pub fn stored(store: &[u8], slot: usize, stored: &mut [u8]) -> u8 {
+    unsafe {
+        c::nattveldi_stored(
+            store.as_ptr(),
+            store.len(),
+            slot,
+            stored.as_mut_ptr(),
+            stored.len(),
+        )
+    }
+}
+
+/// Writes the slot numbers of the certificates that stand at a second,
+/// ascending, to the first octets of `list`; the octets behind them stay. The
+/// answer is how many they are, or minus the number of a refusal: -1 if `list`
+/// has fewer than 64 octets or `store` not 13,568. In a refusal `list` stays as
+/// it was.
+///
+/// ```
+/// let mut list = [7; 64];
+/// assert_eq!(nattveldi::raw::standing(&nattveldi::empty_store(), 220, &mut list), 0);
+/// assert_eq!(nattveldi::raw::standing(&[], 220, &mut list), -1);
+/// assert_eq!(list, [7; 64]);
+/// ```
+pub fn standing(store: &[u8], second: u32, list: &mut [u8]) -> i32 {
+    unsafe {
+        c::nattveldi_standing(
+            store.as_ptr(),
+            store.len(),
+            second,
+            list.as_mut_ptr(),
+            list.len(),
         )
     }
 }

@@ -3,13 +3,14 @@
 //!
 //! [`read`] takes a certificate apart and [`id`] works out its 8-octet id.
 //! [`install`] puts a root into a store, and [`admit`] a certificate below an
-//! issuer that the store holds. [`list`] tells what the withdrawal of a
-//! certificate would take down, and [`withdraw`] withdraws it; [`page`] is the
-//! list as text. [`prepare`] tells what the chip is to be asked about a signed
-//! message, and [`decide`] accepts or refuses it. All take any octets of any
-//! length and either answer or give a [`Refusal`], which in a page is a text as
-//! well. Reading copies nothing out of a certificate or message: what the
-//! library found is named by [`Part`]s of the caller's octets.
+//! issuer that the store holds. [`stored`] tells what a slot of a store holds,
+//! and [`standing`] which of the certificates stand. [`list`] tells what the
+//! withdrawal of a certificate would take down, and [`withdraw`] withdraws it;
+//! [`page`] is the list as text. [`prepare`] tells what the chip is to be asked
+//! about a signed message, and [`decide`] accepts or refuses it. All take any
+//! octets of any length and either answer or give a [`Refusal`], which in a page
+//! is a text as well. Reading copies nothing out of a certificate or message:
+//! what the library found is named by [`Part`]s of the caller's octets.
 //!
 //! ```
 //! use nattveldi::{id, read, Kind, Refusal};
@@ -49,6 +50,8 @@ mod certificate;
 #[allow(unsafe_code)]
 mod ffi;
 mod message;
+mod octets;
+mod overview;
 pub mod raw;
 mod refusal;
 mod store;
@@ -59,7 +62,8 @@ pub use certificate::{
     Signature,
 };
 pub use message::{decide, prepare, Decision, Question, Questions, Situation};
-pub use raw::STORE_LENGTH;
+pub use overview::{standing, stored, State, Stored};
+pub use raw::{SLOTS, STORE_LENGTH};
 pub use refusal::Refusal;
 pub use store::{admit, empty_store, install};
 pub use withdrawal::{list, page, withdraw};

@@ -1,6 +1,7 @@
 //! A signed message: what the chip is asked about it, and the decision.
 
 use crate::certificate::{Part, PointType};
+use crate::octets::{array, word};
 use crate::raw::{self, octet_at, DECISION_LENGTH, ID_LENGTH, QUESTIONS_LENGTH};
 use crate::refusal::{self, Refusal};
 
@@ -220,14 +221,6 @@ impl Decision {
             generation_time: u64::from_be_bytes(array(octets, octet_at::DECISION_GENERATION_TIME)),
         }
     }
-}
-
-fn array<const N: usize>(octets: &[u8], at: usize) -> [u8; N] {
-    std::array::from_fn(|i| octets[at + i])
-}
-
-fn word(octets: &[u8], at: usize) -> u32 {
-    u32::from_be_bytes(array(octets, at))
 }
 
 fn part(octets: &[u8], at: usize) -> Part {

@@ -3,7 +3,9 @@
 //! [`Situation`](crate::Situation). For tests, and for callers that want the
 //! words or have a buffer already.
 
-pub use crate::ffi::{admit, decide, id, install, list, page, prepare, read, withdraw};
+pub use crate::ffi::{
+    admit, decide, id, install, list, page, prepare, read, standing, stored, withdraw,
+};
 
 /// How many octets [`read`] writes: 90 words of 4 octets, big-endian.
 pub const FIELDS_LENGTH: usize = 360;
@@ -17,8 +19,14 @@ pub const ID_LENGTH: usize = 8;
 /// How many octets a store has.
 pub const STORE_LENGTH: usize = 13_568;
 
-/// How many octets [`list`] needs: one for each slot of a store.
-pub const LIST_LENGTH: usize = 64;
+/// How many slots a store has.
+pub const SLOTS: usize = 64;
+
+/// How many octets [`stored`] writes.
+pub const STORED_LENGTH: usize = 244;
+
+/// How many octets [`list`] and [`standing`] need: one for each slot of a store.
+pub const LIST_LENGTH: usize = SLOTS;
 
 /// How many octets [`page`] needs; no text is longer.
 pub const PAGE_LENGTH: usize = 6_144;
@@ -29,6 +37,9 @@ pub const QUESTIONS_LENGTH: usize = 104;
 
 /// How many octets [`decide`] writes.
 pub const DECISION_LENGTH: usize = 28;
+
+/// The most octets that a name has.
+pub const LONGEST_NAME: usize = 32;
 
 /// The most permissions that a certificate has.
 pub const MOST_PERMISSIONS: usize = 16;
@@ -68,11 +79,26 @@ pub mod word_at {
     pub const SIGNATURE_TYPE: usize = 89;
 }
 
-/// Where the questions stand in what [`prepare`] writes, and what stands where
-/// in each of them, and in what [`decide`] writes, counted in octets. A part is
-/// two words, start and length.
+/// What stands where in what [`stored`] and [`decide`] write, where the
+/// questions stand in what [`prepare`] writes, and what stands where in each of
+/// them, counted in octets. A part is two words, start and length.
 #[allow(missing_docs)] // the names are those of the C header
 pub mod octet_at {
+    pub const STORED_ID: usize = 0;
+    pub const STORED_ISSUER: usize = 8;
+    pub const STORED_STATE: usize = 16;
+    pub const STORED_KIND: usize = 20;
+    pub const STORED_START: usize = 24;
+    pub const STORED_END: usize = 28;
+    pub const STORED_NAME_LENGTH: usize = 36;
+    pub const STORED_NAME: usize = 40;
+    pub const STORED_KEY_PARITY: usize = 72;
+    pub const STORED_KEY: usize = 76;
+    pub const STORED_RECTANGLE_COUNT: usize = 108;
+    pub const STORED_RECTANGLES: usize = 112;
+    pub const STORED_PERMISSION_COUNT: usize = 176;
+    pub const STORED_PERMISSIONS: usize = 180;
+
     pub const MESSAGE_QUESTION: usize = 0;
     pub const CERTIFICATE_QUESTION: usize = 52;
 

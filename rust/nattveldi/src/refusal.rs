@@ -20,7 +20,8 @@ use crate::raw::ACCEPTED;
 #[repr(u8)]
 pub enum Refusal {
     /// A buffer of the caller is too short, a store has not 13,568 octets, an
-    /// id not 8, a position is out of range, or an age is over 600,000,000.
+    /// id not 8, a slot is above 63, a position is out of range, or an age is
+    /// over 600,000,000.
     BadCall = 1,
     /// A store against its own rules.
     BadStore = 2,
@@ -35,7 +36,7 @@ pub enum Refusal {
     /// over 268,435,455, a seventeenth permission or a fifth rectangle.
     Unsupported = 6,
     /// An issuer, a message's signer, or the id that is asked for, is not in
-    /// the store.
+    /// the store, or the slot that is asked for is empty.
     Unknown = 7,
     /// An issuer, a message's signer, or the certificate under the id that is
     /// asked for, is withdrawn.
@@ -129,7 +130,7 @@ impl Refusal {
     pub fn meaning(self) -> &'static str {
         match self {
             Refusal::BadCall => {
-                "a buffer is too short, a store has not 13,568 octets, an id not 8, a position is out of range, or an age is over 600,000,000"
+                "a buffer is too short, a store has not 13,568 octets, an id not 8, a slot is above 63, a position is out of range, or an age is over 600,000,000"
             }
             Refusal::BadStore => "the store breaks a rule of its own",
             Refusal::TooLong => "a certificate has at most 1,024 octets, a message 2,048",
@@ -139,7 +140,7 @@ impl Refusal {
                 "a version, type or algorithm that is not read here, a number or length over 268,435,455, a seventeenth permission or a fifth rectangle"
             }
             Refusal::Unknown => {
-                "an issuer, the signer, or the id that is asked for, is not in the store"
+                "an issuer, the signer, or the id that is asked for, is not in the store, or the slot is empty"
             }
             Refusal::Withdrawn => {
                 "an issuer, the signer, or the certificate under the id, is withdrawn"

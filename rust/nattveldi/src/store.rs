@@ -20,7 +20,7 @@ pub fn empty_store() -> [u8; STORE_LENGTH] {
 /// the store stays as it was.
 ///
 /// ```
-/// use nattveldi::{empty_store, id, install, Refusal};
+/// use nattveldi::{empty_store, id, install, stored, Refusal};
 ///
 /// let mut root = vec![2, 0, 4, 0, 37, 0, 0, 2]; // a root without a name ..
 /// root.extend([7; 32]);
@@ -31,7 +31,7 @@ pub fn empty_store() -> [u8; STORE_LENGTH] {
 /// assert_eq!(install(&mut store, &root, 0), Err(Refusal::Signature));
 /// assert_eq!(store, empty_store());
 /// install(&mut store, &root, 1)?;
-/// assert_eq!(store[..8], id(&root)?);
+/// assert_eq!(stored(&store, 0)?.id, id(&root)?);
 /// assert_eq!(install(&mut store, &root, 1), Err(Refusal::AlreadyHeld));
 /// # Ok::<(), Refusal>(())
 /// ```
@@ -44,7 +44,7 @@ pub fn install(store: &mut [u8], certificate: &[u8], verdict: u8) -> Result<(), 
 /// refusal the store stays as it was.
 ///
 /// ```
-/// use nattveldi::{admit, empty_store, id, install, Refusal};
+/// use nattveldi::{admit, empty_store, id, install, stored, Refusal};
 ///
 /// let rest = |list, end| {
 ///     let mut octets = vec![0, 37, 0, 0, 2]; // no name; a key ..
@@ -61,7 +61,7 @@ pub fn install(store: &mut [u8], certificate: &[u8], verdict: u8) -> Result<(), 
 /// assert_eq!(admit(&mut store, &ticket, 1), Err(Refusal::Unknown));
 /// install(&mut store, &root, 1)?;
 /// admit(&mut store, &ticket, 1)?;
-/// assert_eq!(store[212..220], id(&ticket)?);
+/// assert_eq!(stored(&store, 1)?.id, id(&ticket)?);
 ///
 /// let longer = below(&id(&root)?, 101);
 /// assert_eq!(admit(&mut store, &longer, 1), Err(Refusal::OutsidePeriod));

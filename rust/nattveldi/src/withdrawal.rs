@@ -6,10 +6,10 @@ use crate::refusal::{self, Refusal};
 /// What the withdrawal of an id would take down at a second: the slots of all
 /// certificates that stand as the store is, and would not stand after it,
 /// ascending. The one under the id is among them, unless it does not stand
-/// itself; then there are none. A slot has 212 octets and starts with the id.
+/// itself; then there are none. [`stored`](crate::stored) tells what is in a slot.
 ///
 /// ```
-/// use nattveldi::{admit, empty_store, id, install, list, withdraw, Refusal};
+/// use nattveldi::{admit, empty_store, id, install, list, stored, withdraw, Refusal};
 ///
 /// let rest = |permissions| {
 ///     let mut octets = vec![0, 37, 0, 0, 2]; // no name; a key ..
@@ -26,8 +26,9 @@ use crate::refusal::{self, Refusal};
 ///
 /// let slots = list(&store, &id(&root)?, 99)?;
 /// assert_eq!(slots, [0, 1]);
-/// let ids: Vec<&[u8]> = slots.iter().map(|slot| &store[212 * slot..][..8]).collect();
-/// assert_eq!(ids, [id(&root)?, id(&ticket)?]);
+/// for (slot, certificate) in slots.into_iter().zip([&root, &ticket]) {
+///     assert_eq!(stored(&store, slot)?.id, id(certificate)?);
+/// }
 /// assert_eq!(list(&store, &id(&ticket)?, 99)?, [1]);
 /// assert!(list(&store, &id(&root)?, 100)?.is_empty()); // nothing stands then
 ///

@@ -7,33 +7,6 @@ mod common;
 use common::stores::*;
 use reference::{decode, encode, Record, Rectangle, SLOTS, SLOT_LENGTH, STORE_LENGTH};
 
-/// The record that `fields` spell, their numbers within their widths.
-fn record(fields: &Fields) -> Record {
-    Record {
-        id: fields.id.to_be_bytes(),
-        issuer: fields.issuer.to_be_bytes(),
-        state: fields.state as u8,
-        kind: fields.kind as u8,
-        start: fields.start as u32,
-        end: fields.end,
-        name_length: fields.name_length as usize,
-        name: fields.name,
-        parity: fields.parity as u8,
-        key: fields.key,
-        rectangle_count: fields.rectangle_count as usize,
-        rectangles: fields
-            .rectangles
-            .map(|[north, west, south, east]| Rectangle {
-                north,
-                west,
-                south,
-                east,
-            }),
-        permission_count: fields.permission_count as usize,
-        permissions: fields.permissions.map(|permission| permission as u32),
-    }
-}
-
 /// Fields of any bits at all, but without padding.
 fn any_fields(numbers: &mut Numbers) -> Fields {
     Fields {
@@ -135,8 +108,8 @@ fn any_fields_both_ways() {
     for _ in 0..2_000 {
         let fields = any_fields(&mut numbers);
         let slot = fields.slot();
-        assert_eq!(decode(&slot), record(&fields));
-        assert_eq!(encode(&record(&fields)), slot);
+        assert_eq!(decode(&slot), fields.record());
+        assert_eq!(encode(&fields.record()), slot);
     }
 }
 

@@ -4,7 +4,7 @@ mod common;
 
 use common::chains::*;
 use common::stores::*;
-use reference::{list, stands, store_is_valid, walk, withdraw};
+use reference::{list, standing, store_is_valid, walk, withdraw};
 
 type Place = Option<(i32, i32)>;
 
@@ -63,6 +63,13 @@ fn slow_walk(stored: &[Fields], of: &Fields, second: u64, place: Place, number: 
 fn slow_standing(stored: &[Fields], second: u64) -> Vec<usize> {
     let stands = |slot: &usize| slow_walk(stored, &stored[*slot], second, None, 1) == 0;
     (0..stored.len()).filter(stands).collect()
+}
+
+/// The slots that the reference lists as standing.
+fn listed_standing(store: &[u8], second: u32) -> Vec<usize> {
+    let mut list = [0xaa; 64];
+    let n = standing(store, second, &mut list).unwrap();
+    list[..n].iter().map(|slot| usize::from(*slot)).collect()
 }
 
 /// One of several, most often the first.
@@ -163,15 +170,12 @@ fn lists() {
             continue;
         }
         let before_standing = slow_standing(&stored, u64::from(second));
-        let stands_now = |slot: &usize| stands(&store, *slot, second);
-        assert_eq!(
-            before_standing,
-            (0..64).filter(stands_now).collect::<Vec<_>>()
-        );
+        assert_eq!(listed_standing(&store, second), before_standing);
         stored[asked].state = 2;
         let after_standing = slow_standing(&stored, u64::from(second));
         assert_eq!(withdraw(&mut after, &id), Ok(()));
         assert!(after == store_of(&stored));
+        assert_eq!(listed_standing(&after, second), after_standing);
         let expected: Vec<u8> = (before_standing.iter())
             .filter(|slot| !after_standing.contains(slot))
             .map(|slot| *slot as u8)

@@ -6,12 +6,20 @@ use common::chains::*;
 use common::stores::*;
 use reference::{stands, store_is_valid, SLOTS};
 
-/// The slots that stand at a second.
+/// The slots that stand at a second, by one and in the list, whose other octets stay.
 fn standing(store: &[u8], second: u32) -> Vec<usize> {
     assert!(store_is_valid(store));
-    (0..SLOTS)
-        .filter(|slot| stands(store, *slot, second))
-        .collect()
+    let stand = (0..SLOTS).filter(|slot| stands(store, *slot, second));
+    let stand: Vec<usize> = stand.collect();
+    for fill in [0xaa, 0x00] {
+        let mut list = [fill; SLOTS + 3];
+        let n = reference::standing(store, second, &mut list).unwrap();
+        let (front, behind) = list.split_at(n);
+        let front: Vec<usize> = front.iter().map(|slot| usize::from(*slot)).collect();
+        assert_eq!(front, stand, "{second}");
+        assert!(behind.iter().all(|octet| *octet == fill), "{second}");
+    }
+    stand
 }
 
 /// Root 100 to 1,000; authorities 100 to 900; tickets 200 to 300, 250 to 400 and 200 to 300.
@@ -110,4 +118,59 @@ fn an_everywhere_ticket_under_a_bounded_authority() {
     assert_eq!(standing(&store_of(&slots), 260), [0, 1, 2, 3, 4, 5]);
     slots[3].rectangles[0] = [2, 0, 0, 1];
     assert_eq!(standing(&store_of(&slots), 260), [0, 1, 2, 4, 5]);
+}
+
+/// Slots in between and behind are empty.
+#[test]
+fn holes() {
+    let mut store = empty_store();
+    for (slot, fields) in [63, 40, 1, 0, 20, 62].into_iter().zip(example()) {
+        set_slot(&mut store, slot, &fields.slot());
+    }
+    assert_eq!(standing(&store, 220), [1, 20, 40, 62, 63]);
+    assert_eq!(standing(&store, 250), [0, 1, 20, 40, 62, 63]);
+    assert_eq!(standing(&store, 300), [0, 20, 40, 63]);
+    // Without the root nothing stands.
+    set_slot(&mut store, 63, &[0; 212]);
+    assert_eq!(standing(&store, 220), []);
+}
+
+#[test]
+fn all_64_in_a_list_of_64() {
+    let mut slots: Vec<Fields> = (2..65).map(|id| ticket(id, 1, 200, 300)).collect();
+    slots.push(root(1));
+    let all: Vec<usize> = (0..64).collect();
+    assert_eq!(standing(&store_of(&slots), 299), all);
+    assert_eq!(standing(&store_of(&slots), 300), [63]);
+    let mut list = [0xff; 64];
+    let n = reference::standing(&store_of(&slots), 299, &mut list);
+    assert_eq!((n, list), (Ok(64), std::array::from_fn(|slot| slot as u8)));
+}
+
+/// "1, 2", and the list stays.
+#[test]
+fn order_of_refusals() {
+    let good = store_of(&example());
+    let mut bad = good.clone();
+    flip(&mut bad, 8 * 212 * 64 - 1);
+    let longer = [&bad[..], &[0]].concat();
+    for (store, list_length, expected) in [
+        (&good[..], 63, Err(1)),
+        (&good[..], 0, Err(1)),
+        (&good[..], 64, Ok(5)),
+        (&good[..], 1_000, Ok(5)),
+        (&good[1..], 64, Err(1)),
+        (&longer[..], 64, Err(1)),
+        (&[][..], 64, Err(1)),
+        (&bad[..], 63, Err(1)),
+        (&bad[1..], 64, Err(1)),
+        (&bad[..], 64, Err(2)),
+        (&bad[..], 65, Err(2)),
+    ] {
+        let mut list = vec![0xaa; list_length];
+        let found = reference::standing(store, 220, &mut list);
+        assert_eq!(found, expected, "{}, {list_length}", store.len());
+        let written = list.iter().filter(|octet| **octet != 0xaa).count();
+        assert_eq!(written, expected.unwrap_or(0));
+    }
 }

@@ -29,8 +29,9 @@ library's version, --help this.
 const BUDGET: usize = 4_096;
 
 /// The order of the table.
-const ORDER: [&str; 9] = [
-    "read", "id", "install", "admit", "list", "withdraw", "prepare", "decide", "page",
+const ORDER: [&str; 11] = [
+    "read", "id", "install", "admit", "list", "withdraw", "stored", "standing", "prepare",
+    "decide", "page",
 ];
 
 fn main() -> ExitCode {

@@ -40,6 +40,7 @@ pub fn rows() -> Vec<Row> {
     let mut rows = reading();
     rows.extend(entering());
     rows.extend(withdrawing());
+    rows.extend(looking());
     rows.extend(judging());
     rows
 }
@@ -103,6 +104,27 @@ fn withdrawing() -> Vec<Row> {
         row("page", "all 64 fall with the root", true, || {
             raw::page(&input, &mut text) > 5_000
         }),
+    ]
+}
+
+fn looking() -> Vec<Row> {
+    let (store, room) = (worst::store(), worst::store_with_room());
+    let mut stored = vec![0; raw::STORED_LENGTH];
+    let mut list = vec![0; raw::LIST_LENGTH];
+    let last = SLOTS - 1;
+    vec![
+        row("stored", "the last of 64", 0, || {
+            raw::stored(&store, last, &mut stored)
+        }),
+        row("stored", "the last, empty", 7, || {
+            raw::stored(&room, last, &mut stored)
+        }),
+        row(
+            "standing",
+            "all 64, in chains of eight",
+            SLOTS as i32,
+            || raw::standing(&store, SECOND, &mut list),
+        ),
     ]
 }
 

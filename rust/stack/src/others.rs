@@ -3,7 +3,7 @@
 
 use difftest::changes::Operation;
 use difftest::random::Random;
-use difftest::{generate, questions, scene};
+use difftest::{generate, overview, questions, scene};
 use nattveldi::raw;
 
 use crate::operations::{Change, Row};
@@ -42,6 +42,7 @@ pub fn rows() -> Vec<Row> {
         read(&mut deepest, random);
         enter(&mut deepest, random);
         withdraw(&mut deepest, random);
+        look(&mut deepest, random);
         judge(&mut deepest, &store, random);
     }
     deepest.0
@@ -85,6 +86,17 @@ fn withdraw(deepest: &mut Deepest, random: &mut Random) {
     let mut withdrawal = made.withdrawal();
     deepest.add("withdraw", || {
         raw::withdraw(&mut withdrawal.store, &withdrawal.id);
+    });
+}
+
+fn look(deepest: &mut Deepest, random: &mut Random) {
+    let mut made = overview::generate::made(random);
+    let slot = made.lookup().slot();
+    deepest.add("stored", || {
+        raw::stored(&made.store, slot, &mut made.buffer);
+    });
+    deepest.add("standing", || {
+        raw::standing(&made.store, made.second, &mut made.list);
     });
 }
 

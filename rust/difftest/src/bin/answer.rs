@@ -17,7 +17,7 @@ library, or with --reference that of the independent reference. --version prints
 the library's version, --help this.
 
   read CERT    NUMBER, and where it is 0 also KIND ISSUER NAME PARITY KEY
-               ASSURANCE START END RECTANGLES PERMISSIONS SIGNATURE_AT
+               ASSURANCE START END REGION PERMISSIONS SIGNATURE_AT
   id CERT      NUMBER ID
   install STORE CERT VERDICT
   admit STORE CERT VERDICT
@@ -26,6 +26,11 @@ the library's version, --help this.
                NUMBER N LIST
   withdraw STORE ID
                NUMBER STORE
+  stored STORE SLOT
+               NUMBER, and where it is 0 also STATE ID ISSUER KIND NAME PARITY
+               KEY START END REGION PERMISSIONS
+  standing STORE SECOND LIST
+               NUMBER N LIST
   prepare STORE MESSAGE NOW LATITUDE LONGITUDE AGE
                NUMBER, and for the message and the certificate that it brings
                SIGNED_START,LENGTH POINT_TYPE KEY SIGNATURE_START,LENGTH

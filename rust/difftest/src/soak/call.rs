@@ -6,6 +6,7 @@ use nattveldi::raw::{self, ACCEPTED, DECISION_LENGTH, PAGE_LENGTH, QUESTIONS_LEN
 use crate::changes::Operation;
 use crate::compare;
 use crate::judgements::Judged;
+use crate::lists::Listed;
 use crate::requests::Request;
 use crate::sides::{self, Side};
 
@@ -51,6 +52,8 @@ pub fn library(call: &Call) -> Given {
         }
         Request::List(list) => raw::list(&store, &list.id, list.second, &mut lent).into(),
         Request::Withdraw(withdrawal) => raw::withdraw(&mut store, &withdrawal.id).into(),
+        Request::Stored(lookup) => raw::stored(&store, lookup.slot(), &mut lent).into(),
+        Request::Standing(standing) => raw::standing(&store, standing.second, &mut lent).into(),
         Request::Prepare(judgement) => {
             let (message, situation) = (&judgement.message, &judgement.situation);
             raw::prepare(&store, message, situation, &mut lent).into()
@@ -89,15 +92,15 @@ pub fn reference(call: &Call) -> Given {
             let changed = withdrawal.ask(Side::Reference);
             call.stores(changed.number, changed.store)
         }
-        Request::List(list) => {
-            let listed = list.ask(Side::Reference);
-            let count = i64::try_from(listed.n).expect("at most 64");
+        Request::List(list) => call.lists(list.ask(Side::Reference)),
+        Request::Stored(lookup) => {
+            let found = lookup.ask(Side::Reference, &call.lent);
             Given {
-                answer: count - i64::from(listed.number),
-                lent: listed.list,
-                ..call.untouched(ACCEPTED)
+                lent: found.buffer,
+                ..call.untouched(found.number)
             }
         }
+        Request::Standing(standing) => call.lists(standing.ask(Side::Reference)),
         Request::Prepare(judgement) => {
             call.judges::<QUESTIONS_LENGTH>(&judgement.prepare(Side::Reference))
         }
@@ -117,6 +120,8 @@ impl Call {
             Request::Change(change) => &change.store,
             Request::List(list) => &list.store,
             Request::Withdraw(withdrawal) => &withdrawal.store,
+            Request::Stored(lookup) => &lookup.store,
+            Request::Standing(standing) => &standing.store,
             Request::Prepare(judgement) | Request::Decide(judgement, _) => &judgement.store,
             Request::Page { input } => input,
         }
@@ -134,6 +139,16 @@ impl Call {
         Given {
             store,
             ..self.untouched(number)
+        }
+    }
+
+    /// The answer is n, or minus the number.
+    fn lists(&self, listed: Listed) -> Given {
+        let count = i64::try_from(listed.n).expect("at most 64");
+        Given {
+            answer: count - i64::from(listed.number),
+            lent: listed.list,
+            ..self.untouched(ACCEPTED)
         }
     }
 

@@ -10,6 +10,7 @@ use crate::changes::{Change, Operation};
 use crate::draft::Draft;
 use crate::generate;
 use crate::lists::List;
+use crate::overview::generate::{self as generate_overview, Made as Overview};
 use crate::plan::{Plan, ROOT};
 use crate::questions::{self, Made as Question, TROUBLES};
 use crate::random::Random;
@@ -38,8 +39,8 @@ const KEPT_WITHDRAWALS: usize = 8;
 type Maker = fn(&Living, &mut Random) -> Made;
 
 /// Each operation as often as the others; install and admit are changes.
-const MAKERS: [Maker; 9] = [
-    read, id, change, change, list, withdraw, prepare, decide, page,
+const MAKERS: [Maker; 11] = [
+    read, id, change, change, list, withdraw, stored, standing, prepare, decide, page,
 ];
 
 pub fn made(living: &Living, random: &mut Random) -> Made {
@@ -138,6 +139,31 @@ fn withdraw(living: &Living, random: &mut Random) -> Made {
         lent: Vec::new(),
     };
     Made { call, keeps }
+}
+
+fn stored(living: &Living, random: &mut Random) -> Made {
+    let made = overview(living, random);
+    plain(Request::Stored(made.lookup()), made.buffer)
+}
+
+fn standing(living: &Living, random: &mut Random) -> Made {
+    let request = overview(living, random).standing();
+    let lent = request.list.clone();
+    plain(Request::Standing(request), lent)
+}
+
+/// About the living store, or about another one.
+fn overview(living: &Living, random: &mut Random) -> Overview {
+    let mut made = generate_overview::sound(random);
+    if !random.once_in(OTHER_STORES) {
+        (made.store, made.contents) = (living.store.clone(), None);
+        if let Some(member) = living.member(random) {
+            made.second = questions::second(&member.entry, random);
+        }
+    }
+    let count = random.pick(&[0, 0, 1]);
+    trouble::make(&mut made, count, &generate_overview::TROUBLES, random);
+    made
 }
 
 fn page(living: &Living, random: &mut Random) -> Made {

@@ -9,7 +9,7 @@ use crate::lines;
 
 /// The operations, and the numbers that the C header has for each. A page says
 /// its number in its text; one whose buffer is too short counts as a bad call.
-const ANSWERS: [(&str, &[u8]); 9] = [
+const ANSWERS: [(&str, &[u8]); 11] = [
     ("read", &[0, 1, 3, 4, 5, 6]),
     ("id", &[0, 1, 3, 4, 5, 6]),
     ("install", &[0, 1, 2, 3, 4, 5, 6, 10, 15, 16, 17]),
@@ -19,6 +19,8 @@ const ANSWERS: [(&str, &[u8]); 9] = [
     ),
     ("list", &[0, 1, 2, 7, 8]),
     ("withdraw", &[0, 1, 2, 7, 8]),
+    ("stored", &[0, 1, 2, 7]),
+    ("standing", &[0, 1, 2]),
     (
         "prepare",
         &[0, 1, 2, 3, 4, 5, 6, 7, 8, 9, 10, 11, 12, 13, 14, 18],
@@ -40,7 +42,7 @@ pub struct Table {
 /// The number that an answer says.
 pub fn number(call: &Call, given: &Given) -> u8 {
     let number = match &call.request {
-        Request::List(_) => -given.answer.min(0),
+        Request::List(_) | Request::Standing(_) => -given.answer.min(0),
         Request::Page { .. } if given.answer == 0 => 1,
         Request::Page { .. } => {
             let text = String::from_utf8_lossy(&given.lent);
@@ -128,6 +130,9 @@ mod tests {
         assert_eq!(number(&call("read -"), &given(6, b"")), 6);
         assert_eq!(number(&call("list - - 0 -"), &given(64, b"")), 0);
         assert_eq!(number(&call("list - - 0 -"), &given(-8, b"")), 8);
+        assert_eq!(number(&call("standing - 0 -"), &given(64, b"")), 0);
+        assert_eq!(number(&call("standing - 0 -"), &given(-2, b"")), 2);
+        assert_eq!(number(&call("stored - 0"), &given(7, b"")), 7);
         assert_eq!(number(&call("page -"), &given(0, b"")), 1);
         assert_eq!(number(&call("page -"), &given(10, b"refused 7\nx")), 7);
         assert_eq!(number(&call("page -"), &given(9, b"withdraw ")), 0);
@@ -144,6 +149,9 @@ mod tests {
         assert!(table.markdown().contains(row), "{}", table.markdown());
         let unseen = table.unseen();
         assert!(unseen.contains(&"id 0".into()) && !unseen.contains(&"id 4".into()));
-        assert_eq!(unseen.len(), 6 + 6 + 11 + 16 + 5 + 5 + 16 + 17 + 5 - 1);
+        assert_eq!(
+            unseen.len(),
+            6 + 6 + 11 + 16 + 5 + 5 + 4 + 3 + 16 + 17 + 5 - 1
+        );
     }
 }

@@ -11,6 +11,13 @@ const ROOT: &str = "020004015225000002(32)20000500000003e80000(64)";
 /// From `sha256sum` over its octets.
 const ROOT_ID: &str = "86057c3d82f36f2d";
 
+/// A withdrawn ticket with id 03.. below 01..: octet 16 has the state 10 and the
+/// kind 001, octets 19 and 20 the start 200 << 3, octets 24 and 25 the end 300
+/// << 5 and a length of name whose last bit leads octet 26, with "T" behind it,
+/// octet 58 the parity and the key's first bit. Bits 722 to 724 are a count of
+/// two rectangles, bits 1,237 to 1,241 one of two permissions.
+const TICKET: &str = "0303030303030303010101010101010188000006400000002580aa(31)60(31)100000000ffffffff7fffffff80000001000000028000000180000002000000030(32)80000093ffffffc0(49)";
+
 /// A file of vectors goes in as it is, and its answers come out.
 #[test]
 fn answers_a_file_of_vectors() {
@@ -110,6 +117,51 @@ fn answers_withdrawals() {
     }
 }
 
+/// A held root in slot 0 and a withdrawn ticket in slot 63, whose issuer is not
+/// stored; and lines that do not parse.
+#[test]
+fn answers_overviews() {
+    let root = format!("{ROOT_ID}(8)60(7)7d00a9(185)");
+    let store = format!("{root}(13144){TICKET}");
+    let list = "ee".repeat(65);
+    let input = format!(
+        "stored {store} 0\nstored {store} 63\nstored {store} 1\nstored {store} 64\n\
+         stored {store} 18446744073709551615\nstored {store} 18446744073709551616\n\
+         stored (13567)01 0\nstored (13567)01 64\nstored - 0\nstored {store} -1\nstored {store}\n\
+         standing {store} 999 {list}\nstanding {store} 1000 {list}\nstanding {store} 0 -\n\
+         standing (13567)01 0 {list}\nstanding {store} 4294967296 {list}\nstanding {store} 0\n"
+    );
+    let zeros = |octets| "00".repeat(octets);
+    let rest = "ee".repeat(64);
+    let expected = [
+        format!("0 1 {ROOT_ID} {} 4 52 0 {} 0 1000 - -", zeros(8), zeros(32)),
+        format!(
+            "0 2 {} {} 1 54 1 80{} 200 300 1,-2,-1,2;5,3,4,6 36,268435455",
+            "03".repeat(8),
+            "01".repeat(8),
+            zeros(31)
+        ),
+        "7".into(),
+        "1".into(),
+        "1".into(),
+        "error".into(),
+        "2".into(),
+        "1".into(),
+        "1".into(),
+        "error".into(),
+        "error".into(),
+        format!("0 1 00{rest}"),
+        format!("0 0 {list}"),
+        "1 0 -".into(),
+        format!("2 0 {list}"),
+        "error".into(),
+        "error".into(),
+    ];
+    for words in [&[][..], &["--reference"]] {
+        assert_eq!(lines(words, input.as_bytes()), expected, "{words:?}");
+    }
+}
+
 #[test]
 fn usage() {
     for words in [&["--refrence"][..], &["--reference", "x"], &[""]] {
@@ -119,6 +171,11 @@ fn usage() {
     }
     let help = run(&["--help"], b"");
     assert!(help.status.success() && help.stdout.starts_with(b"answer [--reference]\n"));
+    let text = String::from_utf8(help.stdout).expect("text");
+    for request in ["stored STORE SLOT", "standing STORE SECOND LIST"] {
+        let said = text.lines().any(|line| line.trim() == request);
+        assert!(said, "{request}");
+    }
     let version = format!("answer {}", nattveldi::VERSION);
     assert_eq!(lines(&["--version"], b""), [version]);
 }

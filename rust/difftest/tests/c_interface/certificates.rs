@@ -2,7 +2,7 @@
 
 use std::path::Path;
 
-use crate::programs::{build, check_fault, example, file, run, run_with, text};
+use crate::programs::{build, check_fault, example, file, run, run_with, target, text};
 
 /// The fields that are expected are those that the comments of `ticket.hex`
 /// give; the id is from `sha256sum` over its octets with octet 100 as 0.
@@ -38,14 +38,14 @@ fn example_reads_a_ticket() {
 }
 
 /// The ids are from `sha256sum` over the octets, with the signature's point
-/// type as 0.
+/// type as 0; kinds and names are those that the files' comments give.
 const ROOT_AND_UNIT: &str = "\
 install 0
 admit 0
 admit 17
 admit 7
-slot 0 1e38b1de3f581532
-slot 1 30e658f573ab3a01
+slot 0 1e38b1de3f581532 root \"root\", held
+slot 1 30e658f573ab3a01 ticket \"unit 18\", held
 ";
 
 /// Below the root a unit goes in once; the ticket of the other example has
@@ -68,4 +68,17 @@ fn example_admits_a_ticket() {
         "admit: cannot open /no/such",
     );
     check_fault(&program, &["/"], "admit: cannot read /");
+    shows_any_name(&program);
+}
+
+/// Octets 4 to 7 of the root are its name. Space and `~` are the first and the
+/// last plain character, and their neighbours are none.
+fn shows_any_name(program: &Path) {
+    let mut octets = example("root.hex");
+    octets[4..8].copy_from_slice(&[0x1f, b' ', b'~', 0x7f]);
+    let path = target("admit-any-name.octets");
+    std::fs::write(&path, octets).expect("a file of octets");
+    let (status, text) = run_with(program, &[&path.to_string_lossy()]);
+    assert_eq!(status, Some(0), "{text}");
+    assert!(text.ends_with(" root \"? ~?\", held\n"), "{text}");
 }

@@ -35,6 +35,7 @@ fn has_the_numbers() {
     for (name, length) in [
         ("FIELDS", raw::FIELDS_LENGTH),
         ("STORE", raw::STORE_LENGTH),
+        ("STORED", raw::STORED_LENGTH),
         ("LIST", raw::LIST_LENGTH),
         ("PAGE", raw::PAGE_LENGTH),
         ("QUESTIONS", raw::QUESTIONS_LENGTH),
@@ -42,6 +43,30 @@ fn has_the_numbers() {
     ] {
         let line = format!("#define NATTVELDI_{name}_LENGTH {length}\n");
         assert!(header.contains(&line), "the header lacks {line}");
+    }
+}
+
+/// Where the fields of a slot stand.
+#[test]
+fn has_the_offsets_of_a_slot() {
+    let header = header();
+    for (name, offset) in [
+        ("ID", octet_at::STORED_ID),
+        ("ISSUER", octet_at::STORED_ISSUER),
+        ("STATE", octet_at::STORED_STATE),
+        ("KIND", octet_at::STORED_KIND),
+        ("START", octet_at::STORED_START),
+        ("END", octet_at::STORED_END),
+        ("NAME_LENGTH", octet_at::STORED_NAME_LENGTH),
+        ("NAME", octet_at::STORED_NAME),
+        ("KEY_PARITY", octet_at::STORED_KEY_PARITY),
+        ("KEY", octet_at::STORED_KEY),
+        ("RECTANGLE_COUNT", octet_at::STORED_RECTANGLE_COUNT),
+        ("RECTANGLES", octet_at::STORED_RECTANGLES),
+        ("PERMISSION_COUNT", octet_at::STORED_PERMISSION_COUNT),
+        ("PERMISSIONS", octet_at::STORED_PERMISSIONS),
+    ] {
+        check_constant(&header, &format!("STORED_{name}"), offset);
     }
 }
 

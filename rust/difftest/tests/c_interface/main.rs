@@ -5,6 +5,7 @@ mod certificates;
 mod header;
 mod installation;
 mod messages;
+mod overview;
 mod pkg_config;
 mod programs;
 mod withdrawal;

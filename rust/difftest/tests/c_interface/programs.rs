@@ -45,23 +45,41 @@ pub fn compiler(variable: &str, usual: &str) -> Command {
 
 /// Compiles an example and links it with the archive.
 pub fn build(name: &str) -> PathBuf {
-    let include = format!("-I{}", root().join("include").display());
-    let archive = archive().to_string_lossy().into_owned();
-    compile(name, "example", &[include, archive])
+    compile(name, "example", &own_flags())
+}
+
+/// Compiles a program of the tests, for one of them, and links it with the
+/// archive.
+pub fn build_source(source: &Path, test: &str) -> PathBuf {
+    let program = target(test);
+    compile_source(source, &program, &own_flags());
+    program
 }
 
 /// Compiles an example with the flags that find header and archive. Each use
 /// has a program of its own, so that tests can run beside each other.
 pub fn compile(name: &str, used_as: &str, flags: &[String]) -> PathBuf {
     let program = target(&format!("{name}-{used_as}"));
+    let source = root().join(format!("examples/{name}.c"));
+    compile_source(&source, &program, flags);
+    program
+}
+
+/// The flags that find this repository's header and the archive.
+fn own_flags() -> [String; 2] {
+    let include = format!("-I{}", root().join("include").display());
+    [include, archive().to_string_lossy().into_owned()]
+}
+
+fn compile_source(source: &Path, program: &Path, flags: &[String]) {
     let mut compiler = compiler("CC", "cc");
     compiler
         .args(WARNINGS)
         .args(["-std=c99", "-O2"])
-        .arg(root().join(format!("examples/{name}.c")))
+        .arg(source)
         .args(flags)
         .arg("-o")
-        .arg(&program);
+        .arg(program);
     let output = compiler
         .output()
         .unwrap_or_else(|error| panic!("no C compiler ({error}); install cc, or name one in CC"));
@@ -70,11 +88,16 @@ pub fn compile(name: &str, used_as: &str, flags: &[String]) -> PathBuf {
         "{}",
         String::from_utf8_lossy(&output.stderr)
     );
-    program
 }
 
 pub fn run(program: &Path, input: &[u8]) -> Output {
+    run_on(program, &[], input)
+}
+
+/// Runs an example with words behind its name.
+pub fn run_on(program: &Path, words: &[&str], input: &[u8]) -> Output {
     let mut child = Command::new(program)
+        .args(words)
         .stdin(Stdio::piped())
         .stdout(Stdio::piped())
         .spawn()

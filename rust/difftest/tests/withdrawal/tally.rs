@@ -69,19 +69,14 @@ pub fn add(counts: &mut Counts, made: &Made, number: u8) {
 }
 
 fn add_standing(counts: &mut Counts, slots: &Slots, asked: &Entry, second: u32) {
-    let in_period = (u64::from(asked.start)..asked.end).contains(&second.into());
-    let outcome = match standing::walk(slots, asked, second) {
-        Ok(length) => format!("stands in a chain of {length}"),
-        Err(CHAIN_TOO_LONG) => too_long(chain(slots, asked).count()),
-        Err(12) if in_period => "does not stand, 12 further up".into(),
-        Err(12) => "does not stand, 12 at the second".into(),
-        Err(number) => format!("does not stand, {number}"),
-    };
+    let outcome = standing::told(slots, asked, second);
     let stands = outcome.starts_with("stands");
     counts.add(outcome);
     let fails = |entry: &&Entry| standing::walk(slots, entry, second) == Err(CHAIN_TOO_LONG);
     let mut too_deep = slots.iter().flatten().filter(fails);
-    if stands && too_deep.any(|entry| chain(slots, entry).any(|above| above.id == asked.id)) {
+    if stands
+        && too_deep.any(|entry| standing::chain(slots, entry).any(|above| above.id == asked.id))
+    {
         counts.add("stands above a chain that is too long");
     }
 }
@@ -91,19 +86,4 @@ pub fn check(counts: &Counts, cases: u64, replay: &str) {
     counts.check_known(9, cases, replay);
     let names = questions::TROUBLES.iter().map(|(trouble, _)| *trouble);
     counts.check_troubles(names, replay);
-}
-
-/// The certificates from one upward; more than a store has, in a ring.
-fn chain<'a>(slots: &'a Slots, entry: &'a Entry) -> impl Iterator<Item = &'a Entry> {
-    standing::upward(slots, entry).take(SLOTS + 1)
-}
-
-fn too_long(length: usize) -> String {
-    let which = match length {
-        ..=9 => "a chain of 9",
-        10..=12 => "a chain of 10 to 12",
-        13..=SLOTS => "a longer chain",
-        _ => "a ring",
-    };
-    format!("does not stand, 18 in {which}")
 }

@@ -39,10 +39,11 @@ fn fields(title: &str, octets: &[u8], fields: &[Field]) -> String {
     text
 }
 
-/// A comment for each filled slot, and one for each run of empty ones.
+/// A comment for each filled slot of a valid store, and one for each run of empty
+/// ones.
 pub fn store(title: &str, octets: &[u8]) -> String {
     let mut text = head(title, octets.len());
-    let slots = Slots::of(octets);
+    let slots = Slots::of(octets).expect("what the library wrote is valid");
     let mut was_empty = false;
     for slot in 0..SLOTS {
         let record = slots.iter().find(|(filled, _)| *filled == slot);

@@ -3,7 +3,7 @@
 use nattveldi::Refusal::{AlreadyHeld, Full, Signature, Withdrawn, WrongKind};
 
 use super::issue::{issued_by, stored};
-use super::library::{reads, store_is_valid, store_length};
+use super::library::{reads, slots, store_is_valid, store_length};
 use super::steps::Steps;
 use super::Explanation;
 use crate::reading;
@@ -29,7 +29,7 @@ fn tests(
     store_length(steps, store)?;
     store_is_valid(steps, store)?;
     let record = read(steps, octets)?;
-    let slots = Slots::of(store);
+    let slots = slots(store)?;
     steps.note(format!("the certificate is {}", record.title()));
     let wanted = if wants_root {
         "a root"

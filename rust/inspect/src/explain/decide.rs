@@ -4,13 +4,12 @@ use nattveldi::Refusal::{BadCall, NotPermitted, OutOfDate, Signature, WrongKind}
 use nattveldi::Situation;
 
 use super::issue::list;
-use super::library::{reads, store_is_valid, store_length};
+use super::library::{reads, slots, store_is_valid, store_length};
 use super::signer::signer;
 use super::steps::Steps;
 use super::walk::{walk, Circumstances};
 use super::Explanation;
 use crate::reading::{self, Message, Signer, MOST_LATITUDE, MOST_LONGITUDE};
-use crate::store::Slots;
 use crate::text::degrees;
 use crate::text::kind::TICKET;
 use crate::text::time::{self, MICROSECONDS};
@@ -39,7 +38,7 @@ fn tests(steps: &mut Steps, case: &Case) -> Result<(), u8> {
     store_is_valid(steps, case.store)?;
     let message = read(steps, case.message)?;
     in_time(steps, &message, &case.situation)?;
-    let slots = Slots::of(case.store);
+    let slots = slots(case.store)?;
     let signer = signer(steps, &slots, case.message, &message)?;
     steps.note(format!("the signer is {}", signer.title()));
     steps.test(WrongKind, signer.kind == TICKET, "the signer is a ticket")?;

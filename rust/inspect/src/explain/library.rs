@@ -1,11 +1,11 @@
-//! Tests that the library answers: whether a store is valid, and whether octets
-//! read. The place and reason of a fault are this tool's own reading.
+//! What the library answers: whether a store is valid, what its slots hold, and
+//! whether octets read. The place and reason of a fault are this tool's own reading.
 
 use nattveldi::Refusal;
 
 use super::steps::Steps;
 use crate::reading::Reading;
-use crate::store::{first_broken, layout, Broken};
+use crate::store::{first_broken, layout, Broken, Slots};
 use crate::verdict;
 
 const STORE_LENGTH: usize = layout::SLOTS * layout::SLOT_LENGTH;
@@ -27,6 +27,11 @@ pub fn store_is_valid(steps: &mut Steps, store: &[u8]) -> Result<(), u8> {
     let text = format!("the store is valid, says the library{rule}");
     let tested = steps.test(Refusal::BadStore, library == 0, text);
     if_fits(tested, library, own)
+}
+
+/// What the slots of a valid store hold.
+pub fn slots(store: &[u8]) -> Result<Slots, u8> {
+    Slots::of(store).map_err(|refusal| refusal.number())
 }
 
 /// `what` reads, by the library's number.

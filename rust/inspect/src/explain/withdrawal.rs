@@ -3,7 +3,7 @@
 use nattveldi::Refusal::Withdrawn;
 
 use super::issue::stored;
-use super::library::{store_is_valid, store_length};
+use super::library::{slots, store_is_valid, store_length};
 use super::steps::Steps;
 use super::walk::{walk, Circumstances};
 use super::Explanation;
@@ -18,44 +18,63 @@ pub struct Falling {
 }
 
 pub fn withdraw(store: &[u8], id: &[u8; 8]) -> Explanation {
-    Explanation::of(|steps| tests(steps, store, id))
+    Explanation::of(|steps| tests(steps, store, id).map(drop))
 }
 
 pub fn list(store: &[u8], id: &[u8; 8], second: u32) -> Falling {
-    let mut slots = Vec::new();
+    let mut fallen = Vec::new();
     let explanation = Explanation::of(|steps| {
-        tests(steps, store, id)?;
-        slots = falling(steps, store, id, second);
+        let slots = tests(steps, store, id)?;
+        let library = Library {
+            standing: nattveldi::standing(store, second).unwrap_or_default(),
+            listed: nattveldi::list(store, id, second).unwrap_or_default(),
+        };
+        fallen = falling(steps, &slots, &library, id, second);
         Ok(())
     });
-    Falling { explanation, slots }
+    Falling {
+        explanation,
+        slots: fallen,
+    }
 }
 
-fn tests(steps: &mut Steps, store: &[u8], id: &[u8; 8]) -> Result<(), u8> {
+/// The slots of the store, if it is valid and the id can be withdrawn.
+fn tests(steps: &mut Steps, store: &[u8], id: &[u8; 8]) -> Result<Slots, u8> {
     store_length(steps, store)?;
     store_is_valid(steps, store)?;
-    let slots = Slots::of(store);
+    let slots = slots(store)?;
     let record = stored(steps, &slots, "the id", id)?;
     steps.note(format!("the certificate is {}", record.title()));
     let held = record.state != WITHDRAWN;
-    steps.test(Withdrawn, held, "it is not withdrawn yet")
+    steps.test(Withdrawn, held, "it is not withdrawn yet")?;
+    Ok(slots)
+}
+
+/// The slots that the library gives.
+struct Library {
+    standing: Vec<usize>,
+    listed: Vec<usize>,
 }
 
 /// What stands and what falls is the library's; why is this tool's own walk,
 /// and so are the slots that are given back.
-fn falling(steps: &mut Steps, store: &[u8], id: &[u8; 8], second: u32) -> Vec<usize> {
-    let slots = Slots::of(store);
-    let listed = nattveldi::list(store, id, second).unwrap_or_default();
+fn falling(
+    steps: &mut Steps,
+    slots: &Slots,
+    library: &Library,
+    id: &[u8; 8],
+    second: u32,
+) -> Vec<usize> {
     let mut fallen = Vec::new();
     for (slot, record) in slots.iter() {
-        let before = standing(&slots, record, second, None);
-        let after = standing(&slots, record, second, Some(*id));
+        let before = standing(slots, record, second, None);
+        let after = standing(slots, record, second, Some(*id));
         if before.is_ok() && after.is_err() {
             fallen.push(slot);
         }
         let library = Fate {
-            stands: verdict::stands(store, slot, &record.id, second),
-            falls: listed.contains(&slot),
+            stands: library.standing.contains(&slot),
+            falls: library.listed.contains(&slot),
         };
         let words = library.words(before, after);
         steps.note(format!("slot {slot}, {}: {words}", record.title()));

@@ -40,7 +40,8 @@ impl Lines {
         let Ok(id) = nattveldi::id(certificate) else {
             return;
         };
-        if let Some((slot, _)) = Slots::of(store).find(&id) {
+        let slots = Slots::of(store).ok();
+        if let Some((slot, _)) = slots.as_ref().and_then(|slots| slots.find(&id)) {
             self.label("  id", &format!("{}, now in slot {slot}", hex::text(&id)));
         }
     }

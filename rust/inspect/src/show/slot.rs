@@ -15,19 +15,21 @@ fn state(state: u8) -> &'static str {
 }
 
 impl Lines {
-    pub fn slot(&mut self, slot: usize, record: &Record, stands: &str) {
+    /// What a slot holds and, if `offsets` is set, where.
+    pub fn slot(&mut self, slot: usize, record: &Record, stands: &str, offsets: bool) {
         let first = SLOT_LENGTH * slot;
-        let (last, title) = (first + SLOT_LENGTH - 1, record.title());
-        let state = state(record.state);
+        let last = first + SLOT_LENGTH - 1;
+        let octets = format!(", octets {first} to {last}");
+        let octets = if offsets { &octets } else { "" };
+        let (title, state) = (record.title(), state(record.state));
         self.plain("");
-        self.plain(&format!(
-            "slot {slot}, octets {first} to {last}: {title}, {state}{stands}"
-        ));
+        self.plain(&format!("slot {slot}{octets}: {title}, {state}{stands}"));
         for (place, index, name, value) in fields(record) {
             let bit = place.of(index);
             let at = format!("{}.{}", first + bit / 8, bit % 8);
-            let line = format!("{at:>9} {:>5}  {name:<16} {value}", place.width);
-            self.plain(line.trim_end());
+            let at = format!("{at:>9} {:>5}", place.width);
+            let at = if offsets { &at } else { "" };
+            self.plain(format!("{at}  {name:<16} {value}").trim_end());
         }
     }
 }

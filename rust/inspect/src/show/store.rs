@@ -19,27 +19,18 @@ pub fn store(source: String, given: &[u8], at: Option<u32>) -> Page {
     if number == Refusal::BadCall.number() || !lines.fits(given, number) {
         return lines.page(number);
     }
-    let slots = Slots::of(given);
-    let counts = format!("{} filled, {} empty", slots.count(), SLOTS - slots.count());
-    lines.label("slots", &counts);
-    // The library says what stands only in a valid store.
-    let at = at.filter(|_| number == 0);
-    if let Some(second) = at {
-        lines.label(
-            "standing",
-            &format!("asked for {}", time::second(second.into())),
-        );
-    }
-    lines.plain("");
-    lines.plain("octet.bit  bits  field");
-    for (slot, record) in slots.iter() {
-        let stands = |second| verdict::stands(given, slot, &record.id, second);
-        let words = match at.map(stands) {
-            None => "",
-            Some(true) => ", stands",
-            Some(false) => ", does not stand",
-        };
-        lines.slot(slot, record, words);
+    let own = Slots::own_reading(given);
+    match Slots::of(given) {
+        Ok(slots) => {
+            lines.count(&slots, "(what they hold: the proved library)");
+            let standing = at.map(|second| lines.standing(given, second));
+            lines.listing(&slots, &own, standing.as_deref());
+        }
+        Err(_) => {
+            let whose = "(this tool's own reading: of a bad store the library tells nothing)";
+            lines.count(&own, whose);
+            lines.listing(&own, &own, None);
+        }
     }
     lines.page(number)
 }
@@ -63,5 +54,106 @@ impl Lines {
             self.label("", "(place and reason: this tool's own reading, which arrives at 2 as the library does)");
         }
         true
+    }
+
+    /// How many slots are filled, and who says what they hold.
+    fn count(&mut self, slots: &Slots, whose: &str) {
+        let counts = format!("{} filled, {} empty", slots.count(), SLOTS - slots.count());
+        self.label("slots", &counts);
+        self.label("", whose);
+    }
+
+    /// The slots that stand at a second, says the library.
+    fn standing(&mut self, given: &[u8], second: u32) -> Vec<usize> {
+        let asked = format!("asked for {}", time::second(second.into()));
+        self.label("standing", &asked);
+        nattveldi::standing(given, second).unwrap_or_default()
+    }
+
+    /// The filled slots. The places of their fields are this tool's own reading:
+    /// if that finds anything else in the octets, no place is given.
+    fn listing(&mut self, slots: &Slots, own: &Slots, standing: Option<&[usize]>) {
+        let fits = slots == own;
+        if !fits {
+            let unfit = "DOES NOT FIT: this tool's own reading finds other slots than the \
+                         library. The library's are given, without offsets.";
+            self.label("layout", unfit);
+        }
+        self.plain("");
+        self.plain(if fits {
+            "octet.bit  bits  field"
+        } else {
+            "field"
+        });
+        for (slot, record) in slots.iter() {
+            let words = match standing.map(|standing| standing.contains(&slot)) {
+                None => "",
+                Some(true) => ", stands",
+                Some(false) => ", does not stand",
+            };
+            self.slot(slot, record, words, fits);
+        }
+    }
+}
+
+#[cfg(test)]
+mod tests {
+    use super::*;
+    use crate::example;
+    use crate::text::hex;
+
+    /// The example store, where this tool's reading finds some bits turned.
+    fn shown(at: usize, turned: u8) -> String {
+        let slots = Slots::of(&example::store()).expect("a valid store");
+        let mut other = example::store();
+        other[at] ^= turned;
+        let mut lines = Lines::about(&[]);
+        lines.listing(&slots, &Slots::own_reading(&other), Some(&[0, 2]));
+        lines.text
+    }
+
+    /// Each slot's line, and the row of its id, begin like this. The library is
+    /// said to find the slots 0 and 2 standing.
+    fn check(text: &str, starts: [[&str; 2]; 3]) {
+        let certificates = [example::root(), example::authority(), example::ticket()];
+        let words = ["stands", "does not stand", "stands"];
+        for ((start, certificate), words) in starts.iter().zip(&certificates).zip(words) {
+            let id = hex::text(&nattveldi::id(certificate).expect("an example reads"));
+            let has = |start: &str, end: &str| {
+                let same = |line: &str| line.starts_with(start) && line.ends_with(end);
+                assert!(text.lines().any(same), "{start} .. {end} in\n{text}");
+            };
+            has(start[0], &format!(", held, {words}"));
+            has(start[1], &format!("  id               {id}"));
+        }
+    }
+
+    #[test]
+    fn slots_that_fit() {
+        let text = shown(0, 0);
+        assert!(!text.contains("DOES NOT FIT"), "{text}");
+        let starts = [
+            ["slot 0, octets 0 to 211: root ", "      0.0    64  "],
+            ["slot 1, octets 212 to 423: authority ", "    212.0    64  "],
+            ["slot 2, octets 424 to 635: ticket ", "    424.0    64  "],
+        ];
+        check(&text, starts);
+    }
+
+    /// The library's fields are printed, and no place: octet 0 is of an id, octet
+    /// 16 of a slot holds its state.
+    #[test]
+    fn slots_that_do_not_fit() {
+        for (at, turned) in [(0, 1), (16, 0b1100_0000), (2 * 212 + 16, 0b0100_0000)] {
+            let text = shown(at, turned);
+            assert!(text.contains("DOES NOT FIT: this tool's own"), "{text}");
+            assert!(!text.contains("octet"), "{text}");
+            let starts = [
+                ["slot 0: root ", "  id"],
+                ["slot 1: authority ", "  id"],
+                ["slot 2: ticket ", "  id"],
+            ];
+            check(&text, starts);
+        }
     }
 }

@@ -1,4 +1,6 @@
-//! This tool's own reading of a store, for display and explanation only.
+//! The slots of a store. What a slot of a valid store holds is the library's
+//! word. Where it stands, and everything about a bad store, is this tool's own
+//! reading, for display and explanation only.
 
 mod bits;
 pub mod layout;

@@ -1,13 +1,13 @@
 //! What a slot holds, and what it would hold of a certificate.
 
-use nattveldi::{Certificate, Rectangle};
+use nattveldi::{Certificate, Rectangle, State, Stored};
 
 use super::bits;
 use super::layout::*;
 use crate::text::{hex, kind, name};
 
-pub const HELD: u8 = 1;
-pub const WITHDRAWN: u8 = 2;
+pub const HELD: u8 = State::Held as u8;
+pub const WITHDRAWN: u8 = State::Withdrawn as u8;
 
 /// The fields of a slot. Length and counts are what it says, and a bad store may
 /// say more than it has room for; name, rectangles and permissions fit the room.
@@ -31,6 +31,27 @@ pub struct Record {
 }
 
 impl Record {
+    /// What the library tells of a slot.
+    pub fn from_stored(stored: Stored) -> Record {
+        Record {
+            id: stored.id,
+            issuer: stored.issuer.unwrap_or_default(),
+            state: stored.state as u8,
+            kind: stored.kind as u8,
+            start: stored.start.into(),
+            end: stored.end,
+            name_length: stored.name.len(),
+            name: stored.name,
+            key_type: stored.point_type as u8,
+            key: stored.key.to_vec(),
+            rectangle_count: stored.rectangles.len(),
+            rectangles: stored.rectangles,
+            permission_count: stored.permissions.len(),
+            permissions: stored.permissions,
+        }
+    }
+
+    /// This tool's own reading of a slot.
     pub fn from_slot(slot: &[u8]) -> Record {
         let number = |place: Place| bits::number(slot, place.bit, place.width);
         let count = |place: Place| number(place) as usize;

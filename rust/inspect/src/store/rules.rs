@@ -41,7 +41,7 @@ pub fn first_broken(store: &[u8]) -> Option<Broken> {
 }
 
 fn shared_id(store: &[u8]) -> Option<Broken> {
-    let slots = Slots::of(store);
+    let slots = Slots::own_reading(store);
     let shared = slots.iter().find_map(|(slot, record)| {
         let (first, _) = slots.find(&record.id)?;
         (first != slot).then_some((first, slot))

@@ -1,16 +1,32 @@
 //! The filled slots of a store.
 
+use nattveldi::{stored, Refusal};
+
 use super::bits;
 use super::layout::{SLOTS, SLOT_LENGTH, STATE};
 use super::Record;
 
+#[derive(Clone, Debug, PartialEq, Eq)]
 pub struct Slots {
     records: Vec<(usize, Record)>,
 }
 
 impl Slots {
-    /// The filled slots of a store that has the right length.
-    pub fn of(store: &[u8]) -> Slots {
+    /// What the library tells of a store, which is nothing if it is bad.
+    pub fn of(store: &[u8]) -> Result<Slots, Refusal> {
+        let mut records = Vec::new();
+        for slot in 0..nattveldi::SLOTS {
+            match stored(store, slot) {
+                Ok(stored) => records.push((slot, Record::from_stored(stored))),
+                Err(Refusal::Unknown) => (), // it is empty
+                Err(refusal) => return Err(refusal),
+            }
+        }
+        Ok(Slots { records })
+    }
+
+    /// This tool's own reading of a store that has the right length, good or bad.
+    pub fn own_reading(store: &[u8]) -> Slots {
         let slots = store.chunks_exact(SLOT_LENGTH).take(SLOTS).enumerate();
         let filled = slots.filter(|(_, octets)| state(octets) != 0);
         let records = filled.map(|(slot, octets)| (slot, Record::from_slot(octets)));

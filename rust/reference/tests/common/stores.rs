@@ -1,6 +1,6 @@
 //! Slots spelled bit by bit after document 01, "The store", with room for every mistake.
 
-use reference::{SLOTS, SLOT_LENGTH, STORE_LENGTH};
+use reference::{Record, Rectangle, SLOTS, SLOT_LENGTH, STORE_LENGTH};
 
 /// "The latest end is ... 262,777,739,970."
 pub const LATEST_END: u64 = 262_777_739_970;
@@ -93,6 +93,32 @@ impl Fields {
         fields.permissions[..permissions].fill(0x0aaa_5555);
         fields.permissions[permissions..].fill(0);
         fields
+    }
+
+    /// The record that the fields spell, their numbers within their widths.
+    pub fn record(&self) -> Record {
+        let rectangle = |[north, west, south, east]: [i32; 4]| Rectangle {
+            north,
+            west,
+            south,
+            east,
+        };
+        Record {
+            id: self.id.to_be_bytes(),
+            issuer: self.issuer.to_be_bytes(),
+            state: self.state as u8,
+            kind: self.kind as u8,
+            start: self.start as u32,
+            end: self.end,
+            name_length: self.name_length as usize,
+            name: self.name,
+            parity: self.parity as u8,
+            key: self.key,
+            rectangle_count: self.rectangle_count as usize,
+            rectangles: self.rectangles.map(rectangle),
+            permission_count: self.permission_count as usize,
+            permissions: self.permissions.map(|permission| permission as u32),
+        }
     }
 
     pub fn slot(&self) -> [u8; SLOT_LENGTH] {
