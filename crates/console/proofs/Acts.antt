@@ -1,5 +1,5 @@
 -- A certificate that stands is held, and a withdrawal by the id that stored shows takes it. Assumes nothing.
-use mathlib.Core.Path.{_≡_, refl, sym, ap, _∙_}
+use mathlib.Core.Path.{_≡_, refl, sym, ap, subst, _∙_}
 use mathlib.Core.Bool.{Bool, true, false}
 use mathlib.Core.List.{List}
 use mathlib.Core.Option.{some}
@@ -10,7 +10,7 @@ use lib.ListN.{length}
 use borrow.Author.Tests.{eqb-false, not-true}
 use Rattle.order.specs.Steps.{gives}
 use Rattle.octets.specs.Reading.{pick}
-use Rattle.bitfields.specs.Field.{number}
+use Rattle.bitfields.specs.Field.{number, Octets}
 use Rattle.bitfields.specs.Zero.{zeroBits}
 use Rattle.bitfields.proofs.Law.{field-lt}
 use Rattle.bitfields.proofs.Runs.{length-fields}
@@ -18,7 +18,8 @@ use Rattle.geo.proofs.Bools.{never}
 use Rattle.records.specs.Layout.{ID, STATE, valuesOf, slotBits}
 use Rattle.records.specs.Records.{recordOf}
 use Rattle.records.specs.declared.Record.{Record}
-use Rattle.store.specs.Slots.{slotCount, slotOf, EMPTY, HELD, GONE, stateAt, filledAt, idAt}
+use Rattle.records.proofs.Decoded.{decoded-sized}
+use Rattle.store.specs.Slots.{slotOf, EMPTY, HELD, GONE, stateAt, idAt}
 use Rattle.store.specs.Search.{find}
 use Rattle.store.specs.Withdrawn.{withdrawnIn}
 use Rattle.store.proofs.Found.{find-only, withdrawn-found}
@@ -30,7 +31,6 @@ use Rattle.chain.proofs.Chains.{chain-own}
 use Rattle.chain.proofs.Laws.{stands-exactly}
 use Rattle.overview.proofs.Laws.{read-given}
 use Rattle.overview.specs.declared.operations.SlotReading.{SlotReading}
-use Rattle.withdrawal.specs.Order.{withdrawal}
 use Rattle.withdrawal.specs.Laws.{Askable}
 use Rattle.withdrawal.proofs.Asked.{withdrawal-asked}
 use Rattle.withdrawal.proofs.Laws.{asked-from}
@@ -71,6 +71,9 @@ module _ (s : List ℕ) (i : ℕ) (v : Valid s) (st : Stored s i) where
 
   pub shown-long : length (shown s i .id) ≡ 8
   shown-long = ap length id-of ∙ length-fields (slotOf s i) (ID .bit) (ID .width) (ID .count)
+
+  pub shown-octets : Octets (shown s i .id)
+  shown-octets = subst Octets (ap (λ (r : Record). r .id) (sym shown-of)) (decoded-sized (slotOf s i) .id)
 
   module _ (w : withdrawnIn s (idAt s i) ≡ false) where
     askable : Askable s (shown s i .id) i

@@ -1,6 +1,6 @@
 -- What stored shows of a store after a withdrawal. Assumes nothing.
 use mathlib.Core.Path.{_≡_, refl, sym, ap, ap₂, _∙_}
-use mathlib.Core.Logic.{_⊎_, _≢_, inl, inr}
+use mathlib.Core.Logic.{_≢_, inl, inr}
 use mathlib.Core.List.{List, _∷_}
 use Prim.Native.Nat.{ℕ, zero, suc, _+_, _*_, _≤_, _<_, zero-le}
 use native.Mathlib.Nat.{mul-suc}
@@ -9,7 +9,7 @@ use lib.Dec.{lit≤}
 use lib.ListN.{length}
 use Rattle.bitfields.specs.Field.{field, Octets}
 use Rattle.bitfields.specs.Runs.{fieldsOf}
-use Rattle.records.specs.Layout.{Extent, ID, ISSUER, STATE, KIND, NAME-LENGTH, NAME, PARITY, KEY, endBit, valueOf, valuesOf, slotBits}
+use Rattle.records.specs.Layout.{Extent, ID, ISSUER, STATE, KIND, NAME-LENGTH, NAME, PARITY, KEY, endBit, valuesOf, slotBits}
 use Rattle.records.specs.Records.{recordOf}
 use Rattle.records.specs.declared.Name.{Name}
 use Rattle.records.specs.declared.Key.{Key}

@@ -1,2 +1,3 @@
 pub mod Kept
 pub mod Acts
+pub mod Pages

@@ -1,25 +1,23 @@
 -- The laws of specs/Laws.antt hold. Assumes nothing.
 use mathlib.Core.Path.{_≡_, refl, sym, ap, subst, _∙_}
 use mathlib.Core.Logic.{_↔_}
-use mathlib.Core.Bool.{true}
 use mathlib.Core.List.{List, List·Memᴰ}
 use Prim.Native.Nat.{ℕ, _≤_, _<_, zero-le}
 use native.Mathlib.Omega.{arith}
 use lib.ListN.{length, getD, take}
-use borrow.Author.Tests.{eqb-true, leb-true, ltb-true}
-use Rattle.order.specs.Steps.{Answer, gives, refused, number, rows, First, run, Well, Gives}
+use borrow.Author.Tests.{leb-true, ltb-true}
+use Rattle.order.specs.Steps.{Answer, gives, refused, number, rows, First, run, Well}
 use Rattle.order.proofs.Steps.{zero-exactly, refuses-at}
 use Rattle.octets.specs.Buffers.{withFront}
-use Rattle.geo.proofs.Bools.{and-split}
 use Rattle.records.specs.Records.{recordOf}
 use Rattle.records.specs.declared.Record.{Record}
-use Rattle.store.specs.Slots.{slotCount, slotOf, filledAt}
+use Rattle.store.specs.Slots.{slotCount, slotOf}
 use Rattle.validity.specs.Laws.{Valid}
 use Rattle.validity.proofs.Laws.{valid-of}
 use Rattle.validity.proofs.Laws as validity
 use Rattle.chain.specs.Stored.{stands, Stored, Stands}
 use Rattle.chain.proofs.Laws.{stands-filled}
-use Rattle.slot_lists.specs.Listings.{Listing, refusedList, written}
+use Rattle.slot_lists.specs.Listings.{refusedList, written}
 use Rattle.slot_lists.proofs.SlotSets.{mem-to, mem-from, slots-sorted, slots-fit}
 use Rattle.slot_lists.proofs.Listings.{front-named, front-long, front-behind}
 use Rattle.overview.specs.Order.{reading, noRecord, readFrom, slotReading, looking, standingSlots, standingFor, standingListing}

@@ -1,6 +1,6 @@
 ghost use mathlib.Core.Path.{_≡_};
 ghost use mathlib.Core.Bool.{true};
-ghost use Prim.Native.Nat.{ℕ, _<_};
+ghost use Prim.Native.Nat.{_<_};
 ghost use Rattle.octets.specs.Reading.{pick};
 ghost use lib.Dec.{eqb};
 ghost use Rattle.store.specs.Slots.{slotCount};

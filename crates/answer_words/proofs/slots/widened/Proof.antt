@@ -4,7 +4,7 @@ use mathlib.Core.List.{append-nil}
 use Prim.Native.Nat.{_+_, _-_, _≤_}
 use native.Mathlib.Omega.{arith}
 use borrow.Author.Needs.{needs}
-use lib.ListN.{length, getD, replicate, length-set}
+use lib.ListN.{length, replicate, length-set}
 use lib.Seq.{paste, paste-zero}
 use Rattle.octets.proofs.Pasted.{paste-next, paste-all}
 use Rattle.answer_words.proofs.slots.widened.Statement.{statement}

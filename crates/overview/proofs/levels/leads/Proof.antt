@@ -1,4 +1,3 @@
-use mathlib.Core.Path.{ap}
 use borrow.Author.Needs.{needs}
 use Rattle.overview.proofs.Rounds.{leads-on, leads-root, leads-not}
 use Rattle.overview.proofs.levels.leads.Statement.{statement}

@@ -1,9 +1,9 @@
 -- The invariant: the links of the slots below i are there. Assumes nothing.
-use mathlib.Core.Path.{_≡_, _∙_}
+use mathlib.Core.Path.{_≡_}
 use Prim.Native.Nat.{ℕ, _-_, _≤_, _<_}
 use native.Mathlib.Omega.{arith}
-use lib.ListN.{length, getD, length-set}
-use Rattle.overview.specs.Computed.{linkAt, Links}
+use lib.ListN.{length, getD}
+use Rattle.overview.specs.Computed.{linkAt}
 use Rattle.overview.proofs.Rounds.{one-more}
 use borrow.Author.Needs.{needs}
 use Rattle.overview.proofs.links.links_at.Statement.{statement}
