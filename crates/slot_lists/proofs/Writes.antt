@@ -1,7 +1,7 @@
 -- The loop that writes a set's slots to the front of a list: what has been written, and what is still to be. Assumes nothing.
 use mathlib.Core.Path.{_≡_, refl, sym, ap, _∙_}
 use mathlib.Core.Bool.{Bool, true, false, cond}
-use mathlib.Core.List.{List, _∷_, _++_, append-nil}
+use mathlib.Core.List.{List, [], _∷_, _++_, append-nil}
 use Prim.Native.Nat.{ℕ, zero, suc, _+_, _-_, _/_, _%_, _≤_, _<_}
 use native.Mathlib.Numerals.{add-one}
 use native.Mathlib.Omega.{arith}
@@ -53,14 +53,28 @@ module _ (n : ℕ) (out₀ out : List ℕ) (r k i : ℕ) (w : Writing n out₀ o
         whole = ap (λ (m : ℕ). take m (set out k i) ++ rest) (add-one k) ∙ ap (λ (x : List ℕ). x ++ rest) (take-suc-set out k i k<) ∙ append-snoc (take k out) i rest ∙ ap (λ (x : List ℕ). take k out ++ x) (sym e) ∙ w .whole;
       }
 
-pub done : (n : ℕ) (out₀ out : List ℕ) (r k i : ℕ) → Writing n out₀ out r k i → 64 ≤ i → 64 ≤ length out₀ → out ≡ withFront (slotsIn n 0 64) out₀
+-- of an empty set nothing is to be written
+none-in : (i k : ℕ) → slotsIn 0 i k ≡ []
 unfolding slotsIn
-done n out₀ out r k i w l room =
+none-in i zero = refl
+none-in i (suc k) = none-in (suc i) k
+
+pub done : (n : ℕ) (out₀ out : List ℕ) (r k i : ℕ) → Writing n out₀ out r k i → slotsIn r i (64 - i) ≡ [] → 64 ≤ length out₀ → out ≡ withFront (slotsIn n 0 64) out₀
+done n out₀ out r k i w none room =
     let A : List ℕ = slotsIn n 0 64 in
-    let z : 64 - i ≡ 0 = omega arith in
-    let t : take k out ≡ A = sym (append-nil (take k out)) ∙ (ap (λ (m : ℕ). take k out ++ slotsIn r i m) (sym z) ∙ w .whole) in
+    let t : take k out ≡ A = sym (append-nil (take k out)) ∙ (ap (λ (x : List ℕ). take k out ++ x) (sym none) ∙ w .whole) in
     let len : length A ≡ k = sym (ap length t) ∙ length-take-le k out (omega (arith, w .k-le, w .i-le, w .long)) in
     sym (take-append-drop k out) ∙ ap (λ (x : List ℕ). x ++ drop k out) t ∙ ap (λ (x : List ℕ). A ++ x) (w .tail ∙ ap (λ (m : ℕ). drop m out₀) (sym len))
+
+-- every slot was looked at, or the rest of the set is empty
+pub all-passed : (r i : ℕ) → 64 ≤ i → slotsIn r i (64 - i) ≡ []
+unfolding slotsIn
+all-passed r i l =
+    let z : 64 - i ≡ 0 = omega arith in
+    ap (slotsIn r i) z
+
+pub none-left : (r i : ℕ) → r ≡ 0 → slotsIn r i (64 - i) ≡ []
+none-left r i e = ap (λ (m : ℕ). slotsIn m i (64 - i)) e ∙ none-in i (64 - i)
 
 -- the slots of the number are those of the list
 in-cons : (a : ℕ) (b : Bool) (x y : List ℕ) → x ≡ y → cond (eqb (bit b) 1) (a ∷ x) x ≡ cond b (a ∷ y) y

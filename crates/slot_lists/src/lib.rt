@@ -22,6 +22,9 @@ pub fn write_slots(set: u64, lent: &mut [u8])
     let mut k: usize = 0;
     let mut i: usize = 0;
     while i < SLOTS {
+        if rest == 0 {
+            return;
+        }
         if rest % 2 == 1 {
             lent[k] = i as u8;
             k += 1;
