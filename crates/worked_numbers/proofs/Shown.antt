@@ -23,9 +23,9 @@ use Rattle.chain.specs.Stored.{subjectAt, issuerIn, walkNumber}
 use Rattle.chain.specs.Computed.{alsoAt}
 use Rattle.chain.specs.Walk.{walk}
 use Rattle.slot_lists.specs.SlotSets.{slotsFrom}
+use Rattle.slot_lists.specs.Listings as listings
 use Rattle.withdrawal.specs.Order.{asked, listedFor, page}
 use Rattle.withdrawal.specs.Computed.{fallsWith}
-use Rattle.withdrawal.specs.Order as order
 use Rattle.withdrawal.proofs.Asked.{asked-at, held-still, page-asked}
 use Rattle.withdrawal.proofs.Fallen.{slots-affected}
 use Rattle.sample_stores.specs.Stores.{eight}
@@ -63,11 +63,11 @@ place =
 filled : filledAt written 1 ≡ true
 filled = rw state
 
-page-written : page written (eight 0x02) 220 (replicate slotCount 0) ≡ order.written (1 ∷ 2 ∷ []) (replicate slotCount 0) written
+page-written : page written (eight 0x02) 220 (replicate slotCount 0) ≡ listings.written (1 ∷ 2 ∷ []) (replicate slotCount 0) written
 unfolding listedFor
 page-written =
     sym (page-asked written (eight 0x02) 220 (replicate slotCount 0) (gives 1) (lit≤ tt) place)
-    ∙ ap (λ (l : List ℕ). order.written l (replicate slotCount 0) written) (sym (slots-affected written 1 220 written-octets good (lit≤ tt) filled) ∙ slots)
+    ∙ ap (λ (l : List ℕ). listings.written l (replicate slotCount 0) written) (sym (slots-affected written 1 220 written-octets good (lit≤ tt) filled) ∙ slots)
 
-pub listed : page shown (eight 0x02) 220 (replicate slotCount 0) ≡ order.written (1 ∷ 2 ∷ []) (replicate slotCount 0) shown
-listed = subst (λ (s : List ℕ). page s (eight 0x02) 220 (replicate slotCount 0) ≡ order.written (1 ∷ 2 ∷ []) (replicate slotCount 0) s) (sym shown-written) page-written
+pub listed : page shown (eight 0x02) 220 (replicate slotCount 0) ≡ listings.written (1 ∷ 2 ∷ []) (replicate slotCount 0) shown
+listed = subst (λ (s : List ℕ). page s (eight 0x02) 220 (replicate slotCount 0) ≡ listings.written (1 ∷ 2 ∷ []) (replicate slotCount 0) s) (sym shown-written) page-written
