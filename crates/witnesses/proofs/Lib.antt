@@ -5,6 +5,7 @@ pub mod Reading
 pub mod Empty
 pub mod Walked
 pub mod Listed
+pub mod Overviews
 pub mod Kept
 pub mod Lone
 pub mod Entering

@@ -23,10 +23,9 @@ use Rattle.chain.specs.Walk.{walk}
 use Rattle.chain.specs.Stored.{subjectAt, issuerIn, walkNumber}
 use Rattle.chain.specs.Computed.{alsoAt}
 use Rattle.slot_lists.specs.SlotSets.{slotsFrom}
-use Rattle.slot_lists.specs.Listings.{refusedList}
+use Rattle.slot_lists.specs.Listings.{refusedList, written}
 use Rattle.withdrawal.specs.Order.{asked, listedFor, after, page, withdrawal}
 use Rattle.withdrawal.specs.Computed.{heldAt, fallsWith}
-use Rattle.withdrawal.specs.Order as order
 use Rattle.withdrawal.proofs.Asked.{asked-unknown, asked-at, page-asked, page-refused, withdrawal-asked}
 use Rattle.withdrawal.proofs.Fallen.{slots-affected}
 use Rattle.witnesses.specs.Inputs.{empty, marked}
@@ -83,11 +82,11 @@ filled : filledAt chained 1 ≡ true
 unfolding chained imagePut itemsOf itemsPut runPut digitsPut withDigits octets stateAt field digitsAt number
 filled = refl
 
-listed : page chained (eight 0x02) 220 (replicate slotCount 0) ≡ order.written (1 ∷ 2 ∷ 4 ∷ 5 ∷ 6 ∷ 7 ∷ 8 ∷ 9 ∷ 10 ∷ []) (replicate slotCount 0) chained
+listed : page chained (eight 0x02) 220 (replicate slotCount 0) ≡ written (1 ∷ 2 ∷ 4 ∷ 5 ∷ 6 ∷ 7 ∷ 8 ∷ 9 ∷ 10 ∷ []) (replicate slotCount 0) chained
 unfolding listedFor
 listed =
     sym (page-asked chained (eight 0x02) 220 (replicate slotCount 0) (gives 1) (lit≤ tt) place)
-    ∙ ap (λ (l : List ℕ). order.written l (replicate slotCount 0) chained) (sym (slots-affected chained 1 220 chained-octets (chained-open .good) (lit≤ tt) filled) ∙ fallen)
+    ∙ ap (λ (l : List ℕ). written l (replicate slotCount 0) chained) (sym (slots-affected chained 1 220 chained-octets (chained-open .good) (lit≤ tt) filled) ∙ fallen)
 
 pub listing-reached : AllReached listing
 listing-reached = (
@@ -104,7 +103,7 @@ listing-reached = (
             on-chains (λ s. EachReached (unlisted s (eight 0x04) 8)) gone,
             (
               (
-                on-chains (λ s. page s (eight 0x02) 220 (replicate slotCount 0) ≡ order.written (1 ∷ 2 ∷ 4 ∷ 5 ∷ 6 ∷ 7 ∷ 8 ∷ 9 ∷ 10 ∷ []) (replicate slotCount 0) s) listed,
+                on-chains (λ s. page s (eight 0x02) 220 (replicate slotCount 0) ≡ written (1 ∷ 2 ∷ 4 ∷ 5 ∷ 6 ∷ 7 ∷ 8 ∷ 9 ∷ 10 ∷ []) (replicate slotCount 0) s) listed,
                 (
                   on-chains (λ s. withdrawal s (eight 0x02) ≡ (0, after s 1)) (sym (withdrawal-asked chained (eight 0x02) (gives 1) place)),
                   tt,

@@ -7,6 +7,7 @@ use mathlib.Core.List.{List, [], _∷_, _++_}
 use lib.ListN.{replicate}
 use lib.IntN.{pos}
 use Rattle.octets.specs.Refusals.{ACCEPTED, BAD-CALL, BAD-STORE, TOO-LONG, CUT, MALFORMED, UNSUPPORTED, UNKNOWN, WITHDRAWN, OTHER-CERTIFICATE, WRONG-KIND, NOT-PERMITTED, OUTSIDE-PERIOD, OUTSIDE-PLACE, OUT-OF-DATE, BAD-SIGNATURE, FULL, ALREADY-HELD, CHAIN-TOO-LONG}
+use Rattle.octets.specs.Kinds.{TICKET}
 use Rattle.octets.specs.Vectors.{part, nowhere}
 use Rattle.attributes.specs.Keys.{absent}
 use Rattle.attributes.specs.Permissions.{unused as no-permission}
@@ -17,15 +18,17 @@ use Rattle.certificate.specs.declared.certificates.Certificate.{Certificate}
 use Rattle.certificate.specs.declared.operations.Reading.{Reading}
 use Rattle.certificate.specs.declared.operations.Identified.{Identified}
 use Rattle.records.specs.Records.{imageOf}
-use Rattle.store.specs.Slots.{HELD, withSlot}
+use Rattle.store.specs.Slots.{HELD, GONE, withSlot}
 use Rattle.admission.specs.Order.{installed, admitted}
 use Rattle.slot_lists.specs.Listings.{Listing, refusedList, written}
 use Rattle.withdrawal.specs.Order.{after, page, withdrawal}
+use Rattle.overview.specs.Order.{unread as unstored, slotReading, standingListing}
+use Rattle.overview.specs.declared.operations.SlotReading.{SlotReading}
 use Rattle.verification.specs.Order.{situation, question, unasked, decision, undecided, preparation, unprepared}
 use Rattle.verification.specs.declared.judging.Situation.{Situation}
 use Rattle.verification.specs.declared.operations.Decision.{Decision}
 use Rattle.verification.specs.declared.operations.Prepared.{Prepared}
-use Rattle.witnesses.specs.Inputs.{anchor, anchor-id, pass, pass-id, everywhere, stored, empty, marked, chains, taken, gone-issuer, ticket-issuer, other-issuer, short-issuer, bay-issuer, full, named, carrying, message, at}
+use Rattle.witnesses.specs.Inputs.{anchor, anchor-id, pass, pass-id, everywhere, bay, stored as recorded, empty, marked, chains, taken, gone-issuer, ticket-issuer, other-issuer, short-issuer, bay-issuer, full, named, carrying, message, at}
 use Rattle.sample_stores.specs.Stores.{eight}
 
 -- an operation's arguments, and what it answers
@@ -40,6 +43,10 @@ pub data Case : Type 0 where
   list : List ℕ → List ℕ → ℕ → List ℕ → Listing → Case
   -- store, id; the number and the store that it leaves
   withdraw : List ℕ → List ℕ → ℕ × List ℕ → Case
+  -- store, slot
+  stored : List ℕ → ℕ → SlotReading → Case
+  -- store, second, list
+  standing : List ℕ → ℕ → List ℕ → Listing → Case
   -- store, message, situation
   prepare : List ℕ → List ℕ → Situation → Prepared → Case
   -- store, message, situation, the message's verdict and the certificate's
@@ -52,6 +59,8 @@ Reached (install store octets verdict answer) = installed store octets verdict �
 Reached (admit store octets verdict answer) = admitted store octets verdict ≡ answer
 Reached (list store name second lent answer) = page store name second lent ≡ answer
 Reached (withdraw store name answer) = withdrawal store name ≡ answer
+Reached (stored store slot answer) = slotReading store slot ≡ answer
+Reached (standing store second lent answer) = standingListing store second lent ≡ answer
 Reached (prepare store octets x answer) = preparation store octets x ≡ answer
 Reached (decide store octets x verdict certified answer) = decision store octets x verdict certified ≡ answer
 
@@ -208,6 +217,39 @@ listing =
     ∷ withdraw chains (eight 0x02) (ACCEPTED, after chains 1)
     ∷ []) ∷ []
 
+-- ---- stored: 0, 1, 2, 7; standing: 0, 1, 2
+
+abbrev pub storing : List (List Case)
+storing =
+    -- "1 (store's length, slot above 63)"
+    (stored [] 0 (unstored BAD-CALL) ∷ stored empty 64 (unstored BAD-CALL) ∷ []) ∷
+    -- "an empty slot is all zero"
+    (stored marked 0 (unstored BAD-STORE) ∷ []) ∷
+    -- "7 (the slot is empty)"
+    (stored empty 63 (unstored UNKNOWN) ∷ stored chains 12 (unstored UNKNOWN) ∷ []) ∷
+    -- all that the slot holds: a ticket for the bay; one that is withdrawn
+    (stored chains 4 (record { number = ACCEPTED; contents = recorded (eight 0x05) TICKET (eight 0x02) HELD 200 300 bay })
+    ∷ stored chains 3 (record { number = ACCEPTED; contents = recorded (eight 0x04) TICKET (eight 0x02) GONE 200 300 everywhere })
+    ∷ []) ∷ []
+
+-- a lent list
+abbrev pub lent : List ℕ
+lent = replicate 64 0xFF
+
+abbrev pub looking : List (List Case)
+looking =
+    -- "1": a list under 64 octets, the store's length
+    (standing empty 220 (replicate 63 0xFF) (refusedList BAD-CALL (replicate 63 0xFF) empty) ∷ standing [] 220 lent (refusedList BAD-CALL lent []) ∷ []) ∷
+    -- "an empty slot is all zero"
+    (standing marked 220 lent (refusedList BAD-STORE lent marked) ∷ []) ∷
+    -- nothing is stored, so that nothing stands
+    (standing empty 220 lent (written [] lent empty) ∷ []) ∷
+    -- slot 3 is withdrawn, and from slot 11 the root is the ninth certificate
+    (standing chains 220 lent (written (0 ∷ 1 ∷ 2 ∷ 4 ∷ 5 ∷ 6 ∷ 7 ∷ 8 ∷ 9 ∷ 10 ∷ []) lent chains)
+    -- the tickets' last second was 299
+    ∷ standing chains 300 lent (written (0 ∷ 1 ∷ 5 ∷ 6 ∷ 7 ∷ 8 ∷ 9 ∷ 10 ∷ []) lent chains)
+    ∷ []) ∷ []
+
 -- ---- install and admit: 0 to 6, 10, 15 to 17; admit 7, 8, 11 to 13
 
 abbrev pub unentered : List ℕ → List ℕ → ℕ → List Case
@@ -238,9 +280,9 @@ entering =
     (install empty anchor 0 (BAD-SIGNATURE, empty) ∷ admit chains pass 0 (BAD-SIGNATURE, chains) ∷ []) ∷
     (install full anchor 1 (FULL, full) ∷ admit full pass 1 (FULL, full) ∷ []) ∷
     -- "The lowest empty slot is written"
-    (install empty anchor 1 (ACCEPTED, withSlot empty 0 (imageOf (stored anchor-id 4 (eight 0x00) HELD 0 1000 everywhere)))
-    ∷ admit chains pass 1 (ACCEPTED, withSlot chains 12 (imageOf (stored pass-id 1 (eight 0x02) HELD 200 300 everywhere)))
+    (install empty anchor 1 (ACCEPTED, withSlot empty 0 (imageOf (recorded anchor-id 4 (eight 0x00) HELD 0 1000 everywhere)))
+    ∷ admit chains pass 1 (ACCEPTED, withSlot chains 12 (imageOf (recorded pass-id 1 (eight 0x02) HELD 200 300 everywhere)))
     ∷ []) ∷ []
 
 abbrev pub table : List (List Case)
-table = reading ++ (entering ++ (listing ++ (early ++ (walked ++ copies))))
+table = reading ++ (entering ++ (listing ++ (storing ++ (looking ++ (early ++ (walked ++ copies))))))

@@ -3,9 +3,9 @@ use mathlib.Core.Path.{refl}
 use Rattle.octets.specs.Numbers.{bigEndianOn, leadingOnes, unsignedAt, intxAt}
 use Rattle.octets.specs.Durations.{durationAt}
 use Rattle.octets.specs.Coordinates.{latitudeAt}
-use Rattle.worked_numbers.proofs.Shown.{listed}
+use Rattle.worked_numbers.proofs.Shown.{listed, standing}
 use Rattle.worked_numbers.specs.Cases.{AllHold, table}
 
 pub worked : AllHold table
 unfolding intxAt durationAt latitudeAt unsignedAt leadingOnes bigEndianOn
-worked = (refl, (refl, (refl, (refl, (refl, (refl, (refl, (refl, (refl, (refl, (refl, (listed, tt))))))))))))
+worked = (refl, (refl, (refl, (refl, (refl, (refl, (refl, (refl, (refl, (refl, (refl, (listed, (standing, tt)))))))))))))

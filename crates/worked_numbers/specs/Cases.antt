@@ -12,6 +12,7 @@ use Rattle.octets.specs.Coordinates.{latitudeAt}
 use Rattle.store.specs.Slots.{slotCount}
 use Rattle.slot_lists.specs.Listings.{written}
 use Rattle.withdrawal.specs.Order.{page}
+use Rattle.overview.specs.Order.{standingListing}
 use Rattle.sample_stores.specs.Stores.{eight}
 use Rattle.worked_numbers.specs.Example.{shown}
 
@@ -22,12 +23,15 @@ pub data Case : Type 0 where
   latitude : List ℕ → Out ℤ → Case
   -- a store, an id and a second, and the slots on the page's list
   listing : List ℕ → List ℕ → ℕ → List ℕ → Case
+  -- a store and a second, and the slots of what stands
+  standing : List ℕ → ℕ → List ℕ → Case
 
 abbrev pub Holds : Case → Type 0
 Holds (intx s answer) = intxAt s 0 ≡ answer
 Holds (duration s answer) = durationAt s 0 ≡ answer
 Holds (latitude s answer) = latitudeAt s 0 ≡ answer
 Holds (listing store id second slots) = page store id second (replicate slotCount 0) ≡ written slots (replicate slotCount 0) store
+Holds (standing store second slots) = standingListing store second (replicate slotCount 0) ≡ written slots (replicate slotCount 0) store
 
 abbrev pub AllHold : List Case → Type 0
 AllHold [] = Unit
@@ -46,4 +50,6 @@ table =
     duration (0x60 ∷ 0x02 ∷ []) (got 432000 2) ∷
     duration (0xA0 ∷ 0x00 ∷ []) (refused MALFORMED) ∷
     latitude (0xFF ∷ 0xFF ∷ 0xFF ∷ 0xFF ∷ []) (got (negℤ (pos 1)) 4) ∷
-    listing shown (eight 0x02) 220 (1 ∷ 2 ∷ []) ∷ []
+    listing shown (eight 0x02) 220 (1 ∷ 2 ∷ []) ∷
+    -- not in the paper: ticket 04.. starts at 250
+    standing shown 220 (0 ∷ 1 ∷ 2 ∷ 4 ∷ 5 ∷ []) ∷ []
