@@ -1,8 +1,12 @@
 -- One writing after the other. Assumes nothing.
-use mathlib.Core.Path.{_≡_}
+use mathlib.Core.Path.{_≡_, ap, _∙_}
+use mathlib.Core.List.{List}
+use Prim.Native.Nat.{ℕ}
 use native.Mathlib.Omega.{arith}
 use lib.ListN.{length}
-use Rattle.answer_words.specs.Slots.{withNameAndKey}
+use Rattle.octets.specs.Buffers.{withOctets}
+use Rattle.field_words.specs.Words.{withWords}
+use Rattle.answer_words.specs.Slots.{nameStart, keyStart, withNameAndKey}
 use borrow.Author.Needs.{needs}
 use Rattle.answer_words.proofs.slots.write_name_and_key.Statement.{statement}
 use Rattle.answer_words.proofs.slots.write_name_and_key.Tie as tie
@@ -39,7 +43,12 @@ same-length c = search needs
 
 returns : tie.Need-returns
 unfolding withNameAndKey
-returns c = cc
+returns c =
+    let a = c .before .before .before .before .before .before .before .before .before .before .before .before .before .before .before .before .before .before .before .before .before .before .before .before .args in
+    c .before .before .write-octets2 .ensures
+    ∙ ap (λ (m : List ℕ). withOctets m keyStart (a .key .octets))
+    (c .before .before .before .before .before .before .before .before .write-words2 .ensures
+    ∙ ap (withWords _ _) (c .before .before .before .before .before .before .before .before .before .before .before .before .before .before .write-octets .ensures ∙ ap (λ (m : List ℕ). withOctets m nameStart (a .name .octets)) (c .before .before .before .before .before .before .before .before .before .before .before .before .before .before .before .before .before .before .before .before .write-words .ensures)))
 
 pub write-name-and-key-spec : {M : Type 1} → statement M
 write-name-and-key-spec =

@@ -1,4 +1,7 @@
 -- One writing after the other. Assumes nothing.
+use mathlib.Core.Path.{ap, _∙_}
+use mathlib.Core.List.{List}
+use Rattle.answer_words.specs.Slots.{withTerms, withNameAndKey, withRegion, withPermissions}
 use Rattle.answer_words.specs.Slots.{withStored}
 use borrow.Author.Needs.{needs}
 use Rattle.answer_words.proofs.slots.write_stored.Statement.{statement}
@@ -24,7 +27,13 @@ same-length c = search needs
 
 returns : tie.Need-returns
 unfolding withStored
-returns c = cc
+returns c =
+    c .before .before .write-permissions .ensures
+    ∙ ap (withPermissions _)
+    (c .before .before .before .before .before .before .before .write-region .ensures
+    ∙ ap (withRegion _)
+    (c .before .before .before .before .before .before .before .before .before .before .before .before .write-name-and-key .ensures
+    ∙ ap (withNameAndKey _ _) (c .before .before .before .before .before .before .before .before .before .before .before .before .before .before .before .before .before .before .write-terms .ensures ∙ ap (withTerms _) (c .before .before .before .before .before .before .before .before .before .before .before .before .before .before .before .before .before .before .before .before .before .before .before .write-identity .ensures))))
 
 pub write-stored-spec : {M : Type 1} → statement M
 write-stored-spec =

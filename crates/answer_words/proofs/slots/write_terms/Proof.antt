@@ -20,7 +20,7 @@ same-length c = search needs
 
 returns : tie.Need-returns
 unfolding withTerms
-returns c = cc
+returns c = c .before .before .write-words .ensures
 
 pub write-terms-spec : {M : Type 1} → statement M
 write-terms-spec =
