@@ -8,7 +8,7 @@ const BUDGET: usize = 4_096;
 /// What each operation was measured to take when this was last changed, and 64
 /// octets more: a change that needs more room says so here.
 const LIMITS: [(&str, usize); 11] = [
-    ("read", 1_696 + 64),
+    ("read", 1_728 + 64),
     ("id", 1_023 + 64),
     ("install", 2_639 + 64),
     ("admit", 2_639 + 64),
@@ -18,7 +18,7 @@ const LIMITS: [(&str, usize); 11] = [
     ("standing", 1_407 + 64),
     ("prepare", 3_207 + 64),
     ("decide", 3_031 + 64),
-    ("page", 1_959 + 64),
+    ("page", 1_943 + 64),
 ];
 
 fn printed() -> String {
