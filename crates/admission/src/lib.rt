@@ -1,4 +1,6 @@
 // Install an anchor, admit a certificate.
+#![tactic(auto)]
+
 mod issuers; // the tests of its issuer
 mod operations; // the two operations
 

@@ -1,4 +1,6 @@
 // What prepare, decide and stored give, as octets at the front of a buffer.
+#![tactic(auto)]
+
 mod slots; // all that a slot holds
 
 ghost use Rattle.std.specs.Prelude.{◌≡◌, ◌+◌, ◌*◌, ◌≤◌, ◌<◌, length};

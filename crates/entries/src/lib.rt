@@ -1,4 +1,6 @@
 // What the store keeps of a certificate.
+#![tactic(auto)]
+
 ghost use Rattle.std.specs.Prelude.{◌≡◌, [], ◌+◌, ◌≤◌, length};
 ghost use Rattle.octets.specs.Items.{padded};
 ghost use Rattle.octets.specs.Reading.{value_or};

@@ -1,4 +1,6 @@
 // The fields of a certificate as words in a buffer.
+#![tactic(auto)]
+
 mod words; // words of four octets in a buffer
 mod fields; // the fields of a certificate as words
 

@@ -1,4 +1,6 @@
 // Nattveldi: the operations and their types. Nothing else is here.
+#![tactic(auto)]
+
 pub use admission::{admit, install};
 pub use certificate::certificates::Certificate;
 pub use certificate::operations::{Identified, Reading, id, read};

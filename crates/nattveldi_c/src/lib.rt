@@ -1,4 +1,6 @@
 // The C interface (include/nattveldi.h): numbers and octet slices. A buffer that is too short is a bad call.
+#![tactic(auto)]
+
 ghost use Rattle.std.specs.Prelude.{◌≡◌, List, ℕ, ◌≤◌, ℤ};
 ghost use Rattle.admission.specs.Order.{installed, admitted};
 ghost use Rattle.verification.specs.Order.{situation};

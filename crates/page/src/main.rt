@@ -1,5 +1,7 @@
 // The program `page` (document 01, "The page program"): it prints the page for what standard input holds. What it prints for
 // its input is proved of `page_text::page`. Reading and writing are the C library's.
+#![tactic(auto)]
+
 ghost use Rattle.std.specs.Prelude.{◌≡◌, ◌+◌, length};
 ghost use Rattle.page_text.specs.Page.{input_length};
 ghost use Rattle.page_text.specs.Sizes.{page_length};

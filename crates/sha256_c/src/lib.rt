@@ -1,4 +1,6 @@
 // SHA-256 for C and Rust to link, for the benchmark: no part of the library's interface.
+#![tactic(auto)]
+
 ghost use Rattle.std.specs.Prelude.{◌≡◌, List, ℕ};
 ghost use Rattle.sha256_c.specs.Calls.{digest_call};
 

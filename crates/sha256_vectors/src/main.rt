@@ -1,5 +1,7 @@
 // Prints the digests of FIPS 180-4's example messages, of messages around the edges of the padding, and of a message with
 // one octet taken as 0. The expected lines, `stdout`, were written by another implementation.
+#![tactic(auto)]
+
 ghost use Rattle.std.specs.Prelude.{◌≡◌, length};
 
 use sha256::{digest, digest_with_zero_at, short_digest_with_zero_at};

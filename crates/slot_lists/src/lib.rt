@@ -1,4 +1,6 @@
 // Sets of slots as lists in a lent buffer: what list and standing answer.
+#![tactic(auto)]
+
 ghost use Rattle.std.specs.Prelude.{◌≡◌, ◌≤◌, length};
 ghost use Rattle.octets.specs.Buffers.{with_front};
 ghost use Rattle.store.specs.Slots.{slot_count};

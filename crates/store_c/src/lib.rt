@@ -1,4 +1,6 @@
 // The store's check and a record's way there and back, for the benchmark (rust/bench); no part of the library's interface.
+#![tactic(auto)]
+
 ghost use Rattle.std.specs.Prelude.{◌≡◌, List, ℕ};
 ghost use Rattle.store_c.specs.Calls.{valid_call, rewrite_call};
 
