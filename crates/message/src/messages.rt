@@ -11,7 +11,7 @@ use octets::refusals::{MALFORMED, TOO_LONG};
 use octets::vectors::{Next, Part, Span};
 
 // What a message says; of a certificate that it carries, where its parts stand. Parts are octets of what the caller passed.
-#[derive(Drop)]
+#[derive(Clone, Copy)]
 pub struct MessageParts {
     pub headers: HeaderParts,
     pub payload: Part,
@@ -20,7 +20,7 @@ pub struct MessageParts {
 }
 
 // The message that was read, with the position after it, or the number of the refusal.
-#[derive(Drop)]
+#[derive(Clone, Copy)]
 pub enum MessageRead {
     Value { message: MessageParts, next: usize },
     Refused(u8),

@@ -16,7 +16,7 @@ pub const CARRIED: u8 = 2;
 
 // Who signed: the certificate with the id whose 8 octets are named, or the certificate that stands here, of which the signed range and
 // the signature are given; form 0: nobody is named.
-#[derive(Drop)]
+#[derive(Clone, Copy)]
 pub struct SignerParts {
     pub form: u8,
     pub digest: Part,
@@ -25,7 +25,7 @@ pub struct SignerParts {
 }
 
 // The signer that was read, with the position after it, or the number of the refusal.
-#[derive(Drop)]
+#[derive(Clone, Copy)]
 pub enum SignerRead {
     Value { signer: SignerParts, next: usize },
     Refused(u8),

@@ -15,7 +15,7 @@ use store::slots::{filled, record_at};
 use validity::valid;
 
 // What stored answers: the number, and all that the slot holds; zeros in a refusal.
-#[derive(Drop)]
+#[derive(Clone, Copy)]
 pub struct SlotReading {
     pub number: u8,
     pub contents: Record,

@@ -13,7 +13,7 @@ use page_text::sizes::{INPUT_LENGTH, PAGE_LENGTH};
 const INPUT_ROOM: usize = INPUT_LENGTH + 1;
 
 // How many octets were read up to the end of the input or of the room for it, or that a read failed.
-#[derive(Drop)]
+#[derive(Clone, Copy)]
 enum Input {
     Octets(usize),
     Failed,

@@ -9,7 +9,7 @@ ghost use Rattle.slot_lists.specs.Computed.{slots_in};
 use store::sizes::SLOTS;
 
 // The number of the answer, and how many slots the list has.
-#[derive(Drop)]
+#[derive(Clone, Copy)]
 pub struct Listed {
     pub number: u8,
     pub n: u32,

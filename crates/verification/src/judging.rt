@@ -9,7 +9,7 @@ use store::sizes::STORE_LENGTH;
 use validity::valid;
 
 // When and where a message is checked: the time in microseconds, the caller's own position, the allowed age.
-#[derive(Drop)]
+#[derive(Clone, Copy)]
 pub struct Situation {
     pub time: u64,
     pub latitude: i32,

@@ -17,7 +17,7 @@ use store::fields::key_at;
 use store::search::{Found, find_id};
 
 // What the chip is asked: the signed range, the key's point type and octets, and the whole signature structure. Ranges are parts of the message.
-#[derive(Drop)]
+#[derive(Clone, Copy)]
 pub struct Question {
     pub signed: Part,
     pub form: u8,
@@ -26,7 +26,7 @@ pub struct Question {
 }
 
 // The number of the answer, and the questions for the message and for the certificate that it carries; zeros where there is none.
-#[derive(Drop)]
+#[derive(Clone, Copy)]
 pub struct Prepared {
     pub number: u8,
     pub message: Question,
@@ -34,7 +34,7 @@ pub struct Prepared {
 }
 
 // The number of the answer, the payload as a part of the message, the signer's id, its_aid and the generation time; zeros in a refusal.
-#[derive(Drop)]
+#[derive(Clone, Copy)]
 pub struct Decision {
     pub number: u8,
     pub payload: Part,

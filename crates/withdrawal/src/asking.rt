@@ -13,7 +13,7 @@ use store::withdrawals::withdrawn;
 use validity::valid;
 
 // The slot of the certificate that is asked for, or the number of the refusal.
-#[derive(Drop)]
+#[derive(Clone, Copy)]
 pub enum Asked {
     Held(usize),
     Refused(u8),

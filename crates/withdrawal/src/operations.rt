@@ -14,7 +14,7 @@ use store::sizes::SLOTS;
 use store::withdrawals::mark_withdrawn;
 
 // What list answers, and then withdraw.
-#[derive(Drop)]
+#[derive(Clone, Copy)]
 pub struct Both {
     pub page: Listed,
     pub withdrew: u8,
