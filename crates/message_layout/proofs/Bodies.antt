@@ -2,7 +2,7 @@
 use Prim.Native.Nat.{ℕ, ◌+◌, ◌^◌, ◌<◌}
 use mathlib.Core.Path.{◌≡◌, refl, sym, ◌∙◌}
 use mathlib.Core.Bool.{Bool, true}
-use mathlib.Core.List.{List, ◌∷◌, append_nil}
+use mathlib.Core.List.{List, ◌∷◌, append-nil}
 use native.Mathlib.Omega.{arith}
 use lib.ListN.{length, length-append}
 use Rattle.message.specs.Bodies.{payload_at, trailer_in, trailer_at}
@@ -45,7 +45,7 @@ trailer_in_exact =
     (record {
       to = λ x. (tt, (x, tt));
       good = λ x g. (omega arith, ((tt, ((refl, g), tt)), (tt, (tt, refl))));
-      writes = λ x g. simp append_nil;
+      writes = λ x g. simp append-nil;
       values = λ at x g. refl;
       onto = λ x g. (x.1.0, g.1.0.1.0.1, refl);
     })

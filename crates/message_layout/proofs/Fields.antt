@@ -1,7 +1,7 @@
 -- The headers after the signer are read exactly. Assumes nothing.
 use Prim.Native.Nat.{ℕ, ◌^◌, ◌<◌}
 use mathlib.Core.Path.{◌≡◌, refl, ap}
-use mathlib.Core.List.{List, [], ◌++◌, append_nil}
+use mathlib.Core.List.{List, [], ◌++◌, append-nil}
 use mathlib.Core.Option.{Option, none, some}
 use lib.ListN.{length, get_or}
 use Rattle.octets.specs.Reading.{got, bind}
@@ -103,7 +103,7 @@ fields_exact =
     (record {
       to = λ x. (x.generation, (x.deviation, (x.expiration, (x.location, (x.digests, (x.aid, tt))))));
       good = λ x g. (g.generation, (g.deviation, (g.expiration, (g.location, (g.digests, (g.aid, tt))))));
-      writes = λ x g. simp append_nil;
+      writes = λ x g. simp append-nil;
       values = λ at x g. simp (value_anywhere, expiration_anywhere, location_anywhere);
       onto = λ x g. (
         record { generation = x.0; deviation = x.1.0; expiration = x.1.1.0; location = x.1.1.1.0; digests = x.1.1.1.1.0; aid = x.1.1.1.1.1.0 },

@@ -2,7 +2,7 @@
 use Prim.Native.Nat.{ℕ, ◌+◌, ◌^◌, ◌<◌}
 use mathlib.Core.Path.{◌≡◌, refl, sym, ◌∙◌}
 use mathlib.Core.Bool.{Bool, true, false, not, ◌&&◌}
-use mathlib.Core.List.{List, ◌++◌, append_nil}
+use mathlib.Core.List.{List, ◌++◌, append-nil}
 use mathlib.Core.Option.{Option, none, some}
 use lib.Dec.{eqb}
 use lib.ListN.{length}
@@ -51,12 +51,12 @@ headers_exact =
     last (λ a fields n. record { signer = element_value unsigned signer_fields at signer; fields = fields }) others.fields_exact)) (λ x rest f. f.1))
     (record {
       to = λ x. (x.signer, x.fields);
-      good = λ x g. ((g.signer, g.fields), (nothing x.signer (others.given_octets x.fields) _ (sym (append_nil (others.given_octets x.fields))) g.alone, refl));
+      good = λ x g. ((g.signer, g.fields), (nothing x.signer (others.given_octets x.fields) _ (sym (append-nil (others.given_octets x.fields))) g.alone, refl));
       writes = λ x g. refl;
       values = λ at x g. refl;
       onto = λ x g. (
         record { signer = x.0; fields = x.1 },
-        record { signer = g.0.0; fields = g.0.1; alone = nothing x.0 _ (others.given_octets x.1) (append_nil (others.given_octets x.1)) g.1.0 },
+        record { signer = g.0.0; fields = g.0.1; alone = nothing x.0 _ (others.given_octets x.1) (append-nil (others.given_octets x.1)) g.1.0 },
         refl,
       );
     })

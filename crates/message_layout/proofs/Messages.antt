@@ -2,7 +2,7 @@
 use Prim.Native.Nat.{ℕ, ◌+◌, ◌-◌, ◌^◌, ◌<◌}
 use mathlib.Core.Path.{◌≡◌, refl}
 use mathlib.Core.Bool.{true}
-use mathlib.Core.List.{List, ◌∷◌, ◌++◌, append_nil}
+use mathlib.Core.List.{List, ◌∷◌, ◌++◌, append-nil}
 use native.Mathlib.Omega.{arith}
 use lib.Dec.{leb}
 use lib.ListN.{length}
@@ -90,7 +90,7 @@ parts_exact =
         (tt, ((g.headers, g.headers_short), ((g.complete, (g.payload, g.payload_short)), (g.signature, tt)))),
         (tt, (tt, (tt, (tt, refl)))),
       );
-      writes = λ x g. simp append_nil;
+      writes = λ x g. simp append-nil;
       values = λ at x g. refl;
       onto = λ x g. (
         record { headers = x.1.0; payload = x.1.1.0; signature = x.1.1.1.0 },

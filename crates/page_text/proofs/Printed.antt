@@ -1,7 +1,7 @@
 -- The lines: which words they have, how long they are, and one line more. Assumes nothing.
 use mathlib.Core.Path.{◌≡◌, refl, ap, ◌∙◌}
 use mathlib.Core.Bool.{Bool, true, false}
-use mathlib.Core.List.{List, [], ◌∷◌, ◌++◌, append_assoc, append_nil}
+use mathlib.Core.List.{List, [], ◌∷◌, ◌++◌, append_assoc, append-nil}
 use Prim.Native.Nat.{ℕ, suc, ◌+◌, ◌*◌, ◌^◌, ◌≤◌, ◌<◌}
 use native.Mathlib.Numerals.{add-one}
 use native.Mathlib.Omega.{arith}
@@ -105,7 +105,7 @@ module _ (store : List ℕ) where
 
   pub lines_one : (slot : ℕ) → lines_of store (slot ∷ []) ≡ line_at slot
   unfolding lines_of
-  lines_one slot = append_nil (line_at slot)
+  lines_one slot = append-nil (line_at slot)
 
   pub lines_joined : (a b : List ℕ) → lines_of store (a ++ b) ≡ lines_of store a ++ lines_of store b
   unfolding lines_of

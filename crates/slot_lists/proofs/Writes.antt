@@ -1,7 +1,7 @@
 -- The loop that writes a set's slots to the front of a list: what has been written, and what is still to be. Assumes nothing.
 use mathlib.Core.Path.{◌≡◌, refl, sym, ap, ◌∙◌}
 use mathlib.Core.Bool.{Bool, true, false, cond}
-use mathlib.Core.List.{List, [], ◌∷◌, ◌++◌, append_nil}
+use mathlib.Core.List.{List, [], ◌∷◌, ◌++◌, append-nil}
 use Prim.Native.Nat.{ℕ, zero, suc, ◌+◌, ◌-◌, ◌/◌, ◌%◌, ◌≤◌, ◌<◌}
 use native.Mathlib.Numerals.{add-one}
 use native.Mathlib.Omega.{arith}
@@ -62,7 +62,7 @@ none_in i (suc k) = none_in (suc i) k
 pub done : (n : ℕ) (out₀ out : List ℕ) (r k i : ℕ) → Writing n out₀ out r k i → slots_in r i (64 - i) ≡ [] → 64 ≤ length out₀ → out ≡ with_front (slots_in n 0 64) out₀
 done n out₀ out r k i w none room =
     let A : List ℕ = slots_in n 0 64 in
-    let t : take k out ≡ A = sym (append_nil (take k out)) ∙ (ap (λ (x : List ℕ). take k out ++ x) (sym none) ∙ w.whole) in
+    let t : take k out ≡ A = sym (append-nil (take k out)) ∙ (ap (λ (x : List ℕ). take k out ++ x) (sym none) ∙ w.whole) in
     let len : length A ≡ k = sym (ap length t) ∙ length-take-le k out (omega (arith, w.k_le, w.i_le, w.long)) in
     sym (take-append-drop k out) ∙ ap (λ (x : List ℕ). x ++ drop k out) t ∙ ap (λ (x : List ℕ). A ++ x) (w.tail ∙ ap (λ (m : ℕ). drop m out₀) (sym len))
 

@@ -1,7 +1,7 @@
 -- Decimal digits: read back, how many, and the loop that finds them from the last on. Assumes nothing.
 use mathlib.Core.Path.{◌≡◌, refl, sym, ap, ◌∙◌}
 use mathlib.Core.Logic.{◌≢◌}
-use mathlib.Core.List.{List, [], ◌∷◌, ◌++◌, append_assoc, append_nil}
+use mathlib.Core.List.{List, [], ◌∷◌, ◌++◌, append_assoc, append-nil}
 use Prim.Native.Nat.{ℕ, zero, suc, ◌+◌, ◌-◌, ◌*◌, ◌/◌, ◌%◌, ◌^◌, ◌≤◌, ◌<◌}
 use native.Mathlib.Nat.{not-suc-le-zero, lt_of_not-le, pow-suc}
 use native.Mathlib.Decide.{dec_le}
@@ -140,7 +140,7 @@ found_none value digits e =
     record {
       inside = omega arith;
       size = e;
-      split = sym (ap (λ (t : List ℕ). decimal_of value ++ t) (drop_of_length-le digits {i = 10} (omega arith)) ∙ append_nil (decimal_of value));
+      split = sym (ap (λ (t : List ℕ). decimal_of value ++ t) (drop_of_length-le digits {i = 10} (omega arith)) ∙ append-nil (decimal_of value));
     }
 
 module _ {value rest start : ℕ} {digits : List ℕ} (f : Found value rest start digits) where

@@ -28,13 +28,13 @@ use Rattle.sample_stores.specs.Stores.{rest}
 abbrev pub lone : List ℕ → List ℕ
 lone image = with_slot empty 0 image
 
-append_nil : (l : List ℕ) → l ++ [] ≡ l
-append_nil [] = refl
-append_nil (a ∷ l) = ap (λ (t : List ℕ). a ∷ t) (append_nil l)
+append-nil : (l : List ℕ) → l ++ [] ≡ l
+append-nil [] = refl
+append-nil (a ∷ l) = ap (λ (t : List ℕ). a ∷ t) (append-nil l)
 
 lone_is : (l : List ℕ) → l ++ [] ++ rest 1 ≡ lone l
 unfolding empty
-lone_is l = ap (λ (t : List ℕ). t ++ rest 1) (append_nil l)
+lone_is l = ap (λ (t : List ℕ). t ++ rest 1) (append-nil l)
 
 pub gone_is : gone_issuer ≡ lone gone
 unfolding gone_issuer

@@ -20,7 +20,7 @@ others : (c : Start) → length c.args.issuer.rectangles ≡ 4
 others c = search (rules, counted)
 
 ap2 : {x y u v : List Rectangle} → x ≡ u → y ≡ v → inside_of x y ≡ inside_of u v
-ap2 p q = rw (p, q)
+ap2 c q = rw (c, q)
 
 pub returns-then-n-eq0 : goal.returns-then-n-eq0
 returns-then-n-eq0 c =
@@ -36,9 +36,7 @@ returns-then-m-eq0 c =
 
 pub returns : goal.returns
 returns c =
-    let m = (goal.at.returns c).After-size-m in
-    let n = m.before.before in
-    let a = n.before.args in
+    let a = c.args in
     c.each_covered.ensures
-    ∙ bounded_both a.subject.rectangles a.issuer.rectangles m.size2.result n.size.result c.if-m-eq0.false m.before.if1.false (omega (arith, rows n.before)) (omega (arith, others n.before))
-    ∙ ap2 m.size2.ensures.1 n.size.ensures.1
+    ∙ bounded_both a.subject.rectangles a.issuer.rectangles c.size-m.result c.size-n.result c.if-m-eq0.false c.if-n-eq0.false (omega (arith, rows (goal.at.returns c).Start)) (omega (arith, others (goal.at.returns c).Start))
+    ∙ ap2 c.size-m.ensures.1 c.size-n.ensures.1

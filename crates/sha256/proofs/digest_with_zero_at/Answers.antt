@@ -7,9 +7,9 @@ use Rattle.sha256.specs.Hash.{padded, hash_at, digest_of, sha256}
 use Rattle.sha256.proofs.Padding.{padded_length}
 use Rattle.sha256.proofs.digest_with_zero_at.Goals as goal
 
-more : (p : List ℕ) (i : ℕ) → compress_of (hash_at p i) (take 64 (drop (64 * i) p)) ≡ hash_at p (i + 1)
+more : (c : List ℕ) (i : ℕ) → compress_of (hash_at c i) (take 64 (drop (64 * i) c)) ≡ hash_at c (i + 1)
 unfolding hash_at
-more p i = ap (hash_at p) {x = suc i} {y = i + 1} (sym (add-one i))
+more c i = ap (hash_at c) {x = suc i} {y = i + 1} (sym (add-one i))
 
 pub loop-i-init : goal.loop-i-init
 unfolding hash_at

@@ -5,7 +5,7 @@ use Rattle.sha256.specs.Hash.{sha256}
 use Rattle.sha256.proofs.short_digest_with_zero_at.Goals as goal
 
 abbrev last_eight : List ℕ → List ℕ
-last_eight d = get_or d 24 0 ∷ get_or d 25 0 ∷ get_or d 26 0 ∷ get_or d 27 0 ∷ get_or d 28 0 ∷ get_or d 29 0 ∷ get_or d 30 0 ∷ get_or d 31 0 ∷ []
+last_eight c = get_or c 24 0 ∷ get_or c 25 0 ∷ get_or c 26 0 ∷ get_or c 27 0 ∷ get_or c 28 0 ∷ get_or c 29 0 ∷ get_or c 30 0 ∷ get_or c 31 0 ∷ []
 
 pub returns : goal.returns
 unfolding sha256

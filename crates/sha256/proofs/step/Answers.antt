@@ -7,11 +7,11 @@ use Rattle.sha256.proofs.Padding.{whole_block}
 use Rattle.sha256.proofs.step.Goals as goal
 
 -- the part of s that is lent is the padded message's block
-lent : (s : List ℕ) (z i : ℕ) → 64 * i + 64 ≤ length s → ((j : ℕ) → 64 * i ≤ j → j < 64 * i + 64 → j ≡ z → ⊥)
-    → take (64 * i + 64 - 64 * i) (drop (64 * i) s) ≡ take 64 (drop (64 * i) (padded (set s z 0)))
-lent s z i h n =
+lent : (c : List ℕ) (z i : ℕ) → 64 * i + 64 ≤ length c → ((j : ℕ) → 64 * i ≤ j → j < 64 * i + 64 → j ≡ z → ⊥)
+    → take (64 * i + 64 - 64 * i) (drop (64 * i) c) ≡ take 64 (drop (64 * i) (padded (set c z 0)))
+lent c z i h n =
     let e : 64 * i + 64 - 64 * i ≡ 64 = omega arith in
-    ap (λ (k : ℕ). take k (drop (64 * i) s)) e ∙ whole_block s z (64 * i) h n
+    ap (λ (k : ℕ). take k (drop (64 * i) c)) e ∙ whole_block c z (64 * i) h n
 
 pub returns-then-zero-start : goal.returns-then-zero-start
 returns-then-zero-start c =

@@ -1,7 +1,7 @@
 -- The record there and back. Assumes nothing.
 use mathlib.Core.Path.{◌≡◌, sym, ap, ◌∙◌, subst}
 use Prim.Native.Nat.{ℕ, ◌≤◌}
-use mathlib.Core.List.{List, [], ◌++◌, append_nil}
+use mathlib.Core.List.{List, [], ◌++◌, append-nil}
 use native.Mathlib.Omega.{arith}
 use lib.ListN.{length, drop, drop_of_length-le}
 use borrow.Author.Tests.{eq-eqb, ne_eqb}
@@ -45,7 +45,7 @@ returns-3 c =
     let e : c.before.before.before.before.before.encode.result ≡ image_of (record_of a.slot.now) = c.before.before.before.before.before.encode.ensures ∙ ap image_of c.before.before.before.before.before.before.decode.ensures in
     let n : length c.before.before.before.before.before.encode.result ≡ slot_length = ap length e ∙ image_long (record_of a.slot.now) in
     let d : drop (length c.before.before.before.before.before.encode.result) a.image.now ≡ [] = let le : length a.image.now ≤ length c.before.before.before.before.before.encode.result = omega (arith, n, c.before.before.before.before.before.before.before.if2.false) in drop_of_length-le a.image.now le in
-    let w : c.before.before.write-front.new.0 ≡ image_of (record_of a.slot.now) = c.before.before.write-front.ensures ∙ ap (λ (t : List ℕ). c.before.before.before.before.before.encode.result ++ t) d ∙ append_nil c.before.before.before.before.before.encode.result ∙ e in
+    let w : c.before.before.write-front.new.0 ≡ image_of (record_of a.slot.now) = c.before.before.write-front.ensures ∙ ap (λ (t : List ℕ). c.before.before.before.before.before.encode.result ++ t) d ∙ append-nil c.before.before.before.before.before.encode.result ∙ e in
     simp (eq-eqb _ _ c.before.before.before.before.before.before.before.before.if1.false, eq-eqb _ _ c.before.before.before.before.before.before.before.if2.false, w)
 
 pub store-rewrite-spec : {M : Type 1} → statement M

@@ -1,6 +1,6 @@
 -- The invariant: the first numbers are copied. Assumes nothing.
 use mathlib.Core.Path.{◌≡◌, refl, ap, ◌∙◌}
-use mathlib.Core.List.{append_nil}
+use mathlib.Core.List.{append-nil}
 use Prim.Native.Nat.{◌+◌, ◌-◌, ◌≤◌}
 use native.Mathlib.Omega.{arith}
 use borrow.Author.Rules.{rules}
@@ -56,7 +56,7 @@ returns c =
     let a = c.before.before.args in
     let n : length a.t1 ≡ 16 = search rules in
     let e : l.i ≡ 16 = omega arith in
-    l.invariant.2 ∙ ap (paste (replicate 16 0) 0 a.t1) e ∙ paste_all (replicate 16 0) a.t1 16 n ∙ append_nil _
+    l.invariant.2 ∙ ap (paste (replicate 16 0) 0 a.t1) e ∙ paste_all (replicate 16 0) a.t1 16 n ∙ append-nil _
 
 pub widened-spec : {M : Type 1} → statement M
 widened-spec =

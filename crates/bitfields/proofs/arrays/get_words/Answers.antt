@@ -13,7 +13,7 @@ use Rattle.bitfields.proofs.arrays.get_words.Goals as goal
 use Rattle.bitfields.proofs.arrays.get_words.Goals.{In-loop-i}
 
 -- room for one field more
-room : (c : In-loop-i invariant-loop decreases-loop) →
+room : (c : In-loop-i) →
     let a = c.args in
     let at = c.loop-i.at + a.width in
     (at ≡ a.bit + a.width * (c.loop-i.i + 1)) × (at ≤ a.bit + a.width * length a.out.now) × (at ≤ a.bit + 2 ^ 21)

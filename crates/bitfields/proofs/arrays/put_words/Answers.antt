@@ -14,7 +14,7 @@ use Rattle.bitfields.proofs.arrays.put_words.Goals as goal
 use Rattle.bitfields.proofs.arrays.put_words.Goals.{In-loop-i}
 
 -- room for one field more
-room : (c : In-loop-i invariant-loop decreases-loop) →
+room : (c : In-loop-i) →
     let a = c.args in
     (c.loop-i.at + a.width ≡ a.bit + a.width * (c.loop-i.i + 1)) × (c.loop-i.at + a.width ≤ a.bit + a.width * length a.vs.now) × (c.loop-i.at + a.width ≤ a.bit + 2 ^ 21)
 room c =
@@ -39,16 +39,15 @@ overflow_add-at c = let r = room (goal.at.overflow_add-at c).In-loop-i in record
 
 pub loop-i-preserved : goal.loop-i-preserved
 loop-i-preserved c =
-    let t = (goal.at.loop-i-preserved c).At-loop-i in
-    let a = t.before.before.before.args in
-    let i : ℕ = t.loop.i in (
+    let a = c.args in
+    let i : ℕ = c.loop-i.i in (
       omega arith,
       (room (goal.at.loop-i-preserved c).In-loop-i).0,
       search rules,
-      ap (λ (l : List ℕ). with_fields l (t.loop.at + a.width) a.width (drop (i + 1) a.vs.now)) c.put.ensures
-          ∙ ap (λ (v : ℕ). with_fields (with_field t.loop.s t.loop.at a.width v) (t.loop.at + a.width) a.width (drop (i + 1) a.vs.now)) c.wide32.ensures
-          ∙ run_more a.vs.now t.loop.s t.loop.at a.width i (omega arith)
-          ∙ t.loop.invariant.3,
+      ap (λ (l : List ℕ). with_fields l (c.loop-i.at + a.width) a.width (drop (i + 1) a.vs.now)) c.put.ensures
+          ∙ ap (λ (v : ℕ). with_fields (with_field c.loop-i.s c.loop-i.at a.width v) (c.loop-i.at + a.width) a.width (drop (i + 1) a.vs.now)) c.wide32.ensures
+          ∙ run_more a.vs.now c.loop-i.s c.loop-i.at a.width i (omega arith)
+          ∙ c.loop-i.invariant.3,
     )
 
 pub shape_of-s : goal.shape_of-s

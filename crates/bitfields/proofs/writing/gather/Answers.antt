@@ -11,15 +11,15 @@ use Rattle.bitfields.proofs.Octets.{number_part, number_more}
 use Rattle.bitfields.proofs.writing.gather.Goals as goal
 use Rattle.bitfields.proofs.writing.gather.Goals.{In-loop-i}
 
-take_zero : (l : List ℕ) → number (take 0 l) ≡ 0
+take_zero : (c : List ℕ) → number (take 0 c) ≡ 0
 unfolding number
-take_zero l = refl
+take_zero c = refl
 
 -- what is known in a turn: the octets, and that one more of them has room
-known : (c : In-loop-i invariant-loop decreases-loop) → Octets c.args.s.now
+known : (c : In-loop-i) → Octets c.args.s.now
 known c i = omega (arith, c.shared_slice_known-1.given i)
 
-small : (c : In-loop-i invariant-loop decreases-loop) → c.loop-i.acc < 2 ^ 56
+small : (c : In-loop-i) → c.loop-i.acc < 2 ^ 56
 small c =
     let a = c.args in
     subst⁻¹ (λ (n : ℕ). n < 2 ^ 56) c.loop-i.invariant.2

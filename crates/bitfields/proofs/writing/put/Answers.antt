@@ -21,21 +21,21 @@ unfolding shift
 top_lt c = omega arith
 
 acc_lt : (c : After-gather-acc) → c.gather-acc.result < 2 ^ 64
-acc_lt c = omega (arith, c.gather-acc.type-inv)
+acc_lt c = omega (arith, c.gather-acc.type_inv)
 
 -- the number written fits
 new_lt : (c : After-gather-acc) →
-    let k = shift c.before.before.before in
-    let a = c.before.before.before.args in
+    let k = shift c.before.before in
+    let a = c.args in
     let x = c.gather-acc.result in
     x / 2 ^ (a.width + k) * 2 ^ (a.width + k) % 2 ^ 64 + (a.value * 2 ^ k % 2 ^ 64 + bit_and x (1 * 2 ^ k % 2 ^ 64 - 1)) < 2 ^ 64
 new_lt c =
-    let a = c.before.before.before.args in
-    word_fits c.gather-acc.result (shift c.before.before.before) a.width a.value (acc_lt c) (top_lt c.before.before.before) (omega arith)
+    let a = c.args in
+    word_fits c.gather-acc.result (shift c.before.before) a.width a.value (acc_lt c) (top_lt c.before.before) (omega arith)
 
 pub overflow_sub-low : goal.overflow_sub-low
 unfolding shift
-overflow_sub-low c = one_shl_pos (shift c.before.before.before) (omega (arith, top_lt c.before.before.before))
+overflow_sub-low c = one_shl_pos (shift (goal.at.overflow_sub-low c).Start) (omega (arith, top_lt (goal.at.overflow_sub-low c).Start))
 
 pub overflow_add-low : goal.overflow_add-low
 unfolding shift
@@ -48,15 +48,14 @@ overflow_add-acc c = record { fits = new_lt (goal.at.overflow_add-acc c).After-g
 pub returns : goal.returns
 unfolding shift
 returns c =
-    let st = g.before.before.before in
-    let a = st.args in
+    let a = c.args in
     let f : ℕ = a.bit / 8 in
     let e : ℕ = (a.bit + a.width + 7) / 8 in
     let l : List ℕ = a.s.now in
-    let k : ℕ = shift st in
+    let k : ℕ = shift (goal.at.returns c).Start in
     c.scatter.ensures
     ∙ ap (λ (n : ℕ). take f l ++ octets (e - f) n ++ drop e l)
-    (word_with c.gather-acc.result k a.width a.value (acc_lt (goal.at.returns c).After-gather-acc) (top_lt st) (omega arith)
+    (word_with c.gather-acc.result k a.width a.value (acc_lt (goal.at.returns c).After-gather-acc) (top_lt (goal.at.returns c).Start) (omega arith)
     ∙ ap (λ (n : ℕ). with_digits n k a.width a.value) c.gather-acc.ensures)
-    ∙ with_field_scatter l f e a.bit a.width a.value (λ i. omega (arith, c.slice-known.given i))
+    ∙ with_field_scatter l f e a.bit a.width a.value (λ i. omega (arith, c.slice_known-1.given i))
     (omega arith) (omega arith) (omega arith) (omega arith) (omega arith)

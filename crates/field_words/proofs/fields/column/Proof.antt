@@ -9,7 +9,7 @@ use Rattle.field_words.specs.Fields.{cell_of}
 use borrow.Author.Rules.{rules}
 use lib.ListN.{length, get_or, length-set}
 use lib.Seq.{paste, paste-zero}
-use mathlib.Core.List.{map, append_nil}
+use mathlib.Core.List.{map, append-nil}
 use mathlib.Core.Path.{◌≡◌, refl, sym, ap, ◌∙◌}
 use native.Mathlib.Omega.{arith}
 use Rattle.field_words.proofs.fields.column.Statement.{statement}
@@ -62,7 +62,7 @@ returns c = let l = c.before.loop in
     let n : length a.t1 ≡ 16 = search rules in
     let m : length (map (cell_of a.which) a.t1) ≡ 16 = length-map a.t1 (cell_of a.which) ∙ n in
     let e : l.i ≡ 16 = omega arith in
-    l.invariant.2 ∙ ap (paste (replicate 16 0) 0 (map (cell_of a.which) a.t1)) e ∙ paste_all (replicate 16 0) (map (cell_of a.which) a.t1) 16 m ∙ append_nil _
+    l.invariant.2 ∙ ap (paste (replicate 16 0) 0 (map (cell_of a.which) a.t1)) e ∙ paste_all (replicate 16 0) (map (cell_of a.which) a.t1) 16 m ∙ append-nil _
 
 pub column-spec : {M : Type 1} → statement M
 column-spec =

@@ -14,22 +14,22 @@ use Rattle.geo.proofs.searches.covered.Goals.{Start}
 pub loop-i-init : goal.loop-i-init
 loop-i-init c = (search rules, refl)
 
-long : (c : Start invariant-loop decreases-loop) → c.args.n ≤ length c.args.t2
-long c = let e : length c.args.t2 ≡ 4 = search rules in omega arith
+long : (c : Start) → c.args.n ≤ length c.args.others
+long c = let e : length c.args.others ≡ 4 = search rules in omega arith
 
 pub returns-then-within : goal.returns-then-within
 returns-then-within c =
-    sym (some_yes (nested c.args.r) _ c.args.t2 c.loop-i.i c.args.n c.loop-i-test.true (long (goal.at.returns-then-within c).Start) (sym c.within.ensures ∙ c.if-within.true))
+    sym (some_yes (nested c.args.r) _ c.args.others c.loop-i.i c.args.n c.loop-i-test.true (long (goal.at.returns-then-within c).Start) (sym c.within.ensures ∙ c.if-within.true))
     ∙ c.loop-i.invariant.1
 
 pub loop-i-preserved : goal.loop-i-preserved
 loop-i-preserved c =
     (
       search rules,
-      sym (some_no (nested c.args.r) _ c.args.t2 c.loop-i.i c.args.n c.loop-i-test.true (long (goal.at.loop-i-preserved c).Start) (sym c.within.ensures ∙ c.if-within.false))
+      sym (some_no (nested c.args.r) _ c.args.others c.loop-i.i c.args.n c.loop-i-test.true (long (goal.at.loop-i-preserved c).Start) (sym c.within.ensures ∙ c.if-within.false))
           ∙ c.loop-i.invariant.1,
     )
 
 pub returns : goal.returns
 returns c =
-    sym (some_end (nested c.args.r) c.args.t2 c.loop-i.i c.args.n c.loop-i.invariant.0 c.loop-i-test.false) ∙ c.loop-i.invariant.1
+    sym (some_end (nested c.args.r) c.args.others c.loop-i.i c.args.n c.loop-i.invariant.0 c.loop-i-test.false) ∙ c.loop-i.invariant.1

@@ -15,8 +15,8 @@ use Rattle.geo.proofs.searches.each_covered.Goals.{Start}
 pub loop-i-init : goal.loop-i-init
 loop-i-init c = (search rules, refl)
 
-long : (c : Start invariant-loop decreases-loop) → c.args.m ≤ length c.args.t1
-long c = let e : length c.args.t1 ≡ 4 = search rules in omega arith
+long : (c : Start) → c.args.m ≤ length c.args.rectangles
+long c = let e : length c.args.rectangles ≡ 4 = search rules in omega arith
 
 pub returns-then-not-covered : goal.returns-then-not-covered
 returns-then-not-covered c =

@@ -16,17 +16,17 @@ use Rattle.geo.proofs.Lists.{some_yes, some_no, some_end}
 use Rattle.geo.proofs.searches.one_contains.Goals as goal
 use Rattle.geo.proofs.searches.one_contains.Goals.{Start}
 
-long : (c : Start invariant-loop decreases-loop) → c.args.n ≤ length c.args.t1
-long c = let e : length c.args.t1 ≡ 4 = search rules in omega arith
+long : (c : Start) → c.args.n ≤ length c.args.rectangles
+long c = let e : length c.args.rectangles ≡ 4 = search rules in omega arith
 
 -- the test of a turn
-abbrev test : Start invariant-loop decreases-loop → Rectangle → Bool
+abbrev test : Start → Rectangle → Bool
 test c r = contained r (to_z w32 (of_z w32 c.args.latitude)) (to_z w32 (of_z w32 c.args.longitude))
 
 -- what the loop decides is the contract's
-ends : (c : Start invariant-loop decreases-loop)
-    → in_one (take c.args.n c.args.t1) (to_z w32 (of_z w32 c.args.latitude)) (to_z w32 (of_z w32 c.args.longitude))
-    ≡ in_one (take c.args.n c.args.t1) c.args.latitude c.args.longitude
+ends : (c : Start)
+    → in_one (take c.args.n c.args.rectangles) (to_z w32 (of_z w32 c.args.latitude)) (to_z w32 (of_z w32 c.args.longitude))
+    ≡ in_one (take c.args.n c.args.rectangles) c.args.latitude c.args.longitude
 ends c = rw (to_z-of_z c.ranges.latitude, to_z-of_z c.ranges.longitude)
 
 pub loop-i-init : goal.loop-i-init

@@ -9,12 +9,6 @@ use Rattle.sha256.proofs.message.last_block.Goals as goal
 pub loop-k-init : goal.loop-k-init
 loop-k-init c = (search rules, copied_none _ _ _ _ refl)
 
-pub overflow_add-b : goal.overflow_add-b
-overflow_add-b c = search rules
-shared_slice_read_b :
-    tie.Need-shared-slice-read-b invariant-loop decreases-loop invariant-loop2 decreases-loop2 invariant-loop3 decreases-loop3
-shared_slice_read_b (goal.at.overflow_add-b c).In-loop-k = search rules
-
 pub loop-k-preserved : goal.loop-k-preserved
 loop-k-preserved c =
     let a = c.args in
@@ -29,9 +23,6 @@ loop-k-2-preserved c =
     let a = c.args in
     let t = c.loop-k-2 in
     (omega arith, omega arith, copied_more t.invariant.2 (omega arith) (pad_is a.s.now a.zero (a.start + t.k) c.padding.result (omega arith) (omega arith) c.padding.ensures.0 c.padding.ensures.1))
-length_octets_requires :
-    tie.Need-length-octets-requires invariant-loop decreases-loop invariant-loop2 decreases-loop2 invariant-loop3 decreases-loop3
-length_octets_requires (goal.at.loop-k-2-preserved c).After-padding _ = search rules
 
 pub loop-k-3-init : goal.loop-k-3-init
 loop-k-3-init c = (omega arith, omega arith, c.length_octets-octets.ensures, c.loop-k-2.invariant.2)

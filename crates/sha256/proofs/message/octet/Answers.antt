@@ -5,7 +5,7 @@ use Rattle.sha256.proofs.Padding.{end_of, zeroed_there, zeroed_message, zeroed_o
 use Rattle.sha256.proofs.message.octet.Goals as goal
 
 above : {n j : ℕ} → n ≤ j → (j ≡ n → ⊥) → n < j
-above h e = omega arith
+above c e = omega arith
 
 pub returns-then-at-zero : goal.returns-then-at-zero
 returns-then-at-zero c = let a = c.args in sym (zeroed_there a.s.now a.zero a.at c.if-at-n.true c.if-at-zero.true)

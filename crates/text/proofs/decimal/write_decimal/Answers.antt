@@ -19,7 +19,7 @@ pub slice_bounds-write_text-end : goal.slice_bounds-write_text-end
 slice_bounds-write_text-end c = simp length-set (omega arith)
 
 pub write_text-requires : goal.write_text-requires
-write_text-requires c = omega (arith, ap length (found_all c.loop.invariant (omega arith)), decimal_ten c.before.before.before.before.before.before.args.value (omega arith))
+write_text-requires c = omega (arith, ap length (found_all c.loop-rest.invariant (omega arith)), decimal_ten c.args.value (omega arith))
 
 pub returns : goal.returns
-returns c = rw (found_all c.loop.invariant (omega arith)) at c.write_text.ensures
+returns c = rw (found_all c.loop-rest.invariant (omega arith)) at c.write_text.ensures
