@@ -35,7 +35,7 @@ loop-i-init c = (search rules, refl)
 pub returns-then-contains : goal.returns-then-contains
 returns-then-contains c =
     let a = c.args in
-    sym (some_yes (test (goal.at.returns-then-contains c).Start) _ a.t1 c.loop-i.i a.n c.loop-i-test.true (long (goal.at.returns-then-contains c).Start) (sym c.contains.ensures ∙ c.if-contains.true))
+    sym (some_yes (test (goal.at.returns-then-contains c).Start) _ a.rectangles c.loop-i.i a.n c.loop-i-test.true (long (goal.at.returns-then-contains c).Start) (sym c.contains.ensures ∙ c.if-contains.true))
     ∙ c.loop-i.invariant.1
     ∙ ends (goal.at.returns-then-contains c).Start
 
@@ -43,13 +43,13 @@ pub loop-i-preserved : goal.loop-i-preserved
 loop-i-preserved c =
     let a = c.args in (
       search rules,
-      sym (some_no (test (goal.at.loop-i-preserved c).Start) _ a.t1 c.loop-i.i a.n c.loop-i-test.true (long (goal.at.loop-i-preserved c).Start) (sym c.contains.ensures ∙ c.if-contains.false))
+      sym (some_no (test (goal.at.loop-i-preserved c).Start) _ a.rectangles c.loop-i.i a.n c.loop-i-test.true (long (goal.at.loop-i-preserved c).Start) (sym c.contains.ensures ∙ c.if-contains.false))
           ∙ c.loop-i.invariant.1,
     )
 
 pub returns : goal.returns
 returns c =
     let a = c.args in
-    sym (some_end (test (goal.at.returns c).Start) a.t1 c.loop-i.i a.n c.loop-i.invariant.0 c.loop-i-test.false)
+    sym (some_end (test (goal.at.returns c).Start) a.rectangles c.loop-i.i a.n c.loop-i.invariant.0 c.loop-i-test.false)
     ∙ c.loop-i.invariant.1
     ∙ ends (goal.at.returns c).Start

@@ -17,7 +17,7 @@ use Rattle.geo.proofs.searches.one_contains.Given as goal
 
 abbrev pub invariant-loop-i : goal.invariant-loop-i
 invariant-loop-i l =
-    (l.i ≤ l.n) × (in_one (slice l.i l.n l.rectangles) (to_z w32 l.latitude) (to_z w32 l.longitude) ≡ in_one (slice 0 l.n l.rectangles) (to_z w32 l.latitude) (to_z w32 l.longitude))
+    (l.i ≤ l.n) × (in_one (slice l.i l.n l.rectangles) l.latitude l.longitude ≡ in_one (slice 0 l.n l.rectangles) l.latitude l.longitude)
 
 abbrev pub decreases-loop-i : goal.decreases-loop-i
 decreases-loop-i l = l.n - l.i
