@@ -1,0 +1,6 @@
+-- `attributes::keys::no_key` meets its contract. Assumes nothing.
+use borrow.Author.Rules.{rules}
+use Rattle.attributes.proofs.keys.no_key.Goals as goal
+
+pub returns : goal.returns
+returns c = cc
