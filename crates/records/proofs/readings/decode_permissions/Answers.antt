@@ -1,0 +1,8 @@
+-- Count and values. Assumes nothing.
+use Rattle.records.specs.Records.{permissions_of}
+use borrow.Author.Rules.{rules}
+use Rattle.records.proofs.readings.decode_permissions.Goals as goal
+
+pub returns : goal.returns
+unfolding permissions_of
+returns c = cc
