@@ -11,7 +11,7 @@ use Rattle.records.proofs.images.put_name.Goals as goal
 pub put_octets-requires : goal.put_octets-requires
 put_octets-requires c =
     let n : length c.args.name.octets ≡ NAME.count = search rules in
-    let m : length c.put.new.0 ≡ slot_length = search rules in
+    let m : length c.put.new.s ≡ slot_length = search rules in
     (omega arith, omega arith, omega arith)
 
 pub returns : goal.returns

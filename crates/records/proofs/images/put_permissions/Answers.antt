@@ -11,7 +11,7 @@ use Rattle.records.proofs.images.put_permissions.Goals as goal
 pub put_words-requires : goal.put_words-requires
 put_words-requires c =
     let n : length c.args.permissions.values ≡ PERMISSIONS.count = search rules in
-    let m : length c.put.new.0 ≡ slot_length = search rules in
+    let m : length c.put.new.s ≡ slot_length = search rules in
     (omega arith, omega arith, omega arith, omega arith, c.requires.2)
 
 pub returns : goal.returns
