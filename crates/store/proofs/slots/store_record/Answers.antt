@@ -1,0 +1,6 @@
+-- The image is built, then written. Assumes nothing.
+use borrow.Author.Rules.{rules}
+use Rattle.store.proofs.slots.store_record.Goals as goal
+
+pub returns : goal.returns
+returns c = cc
