@@ -1,0 +1,6 @@
+-- `message::signers::no_signer` meets its contract. Assumes nothing.
+use borrow.Author.Rules.{rules}
+use Rattle.message.proofs.signers.no_signer.Goals as goal
+
+pub returns : goal.returns
+returns c = cc

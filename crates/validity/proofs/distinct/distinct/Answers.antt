@@ -1,0 +1,44 @@
+-- One slot a turn, and one mark. Assumes nothing.
+use Prim.Native.Nat.{ℕ, ◌-◌, ◌≤◌}
+use mathlib.Core.Path.{◌≡◌, sym, ap, ◌∙◌}
+use mathlib.Core.Logic.{⊎_elim}
+use mathlib.Core.Bool.{true}
+use mathlib.Core.List.{List}
+use native.Mathlib.Omega.{arith}
+use borrow.Author.Rules.{rules}
+use borrow.Author.Tests.{not-true, not-false}
+use lib.ListN.{length, get_or}
+use Rattle.store.specs.Slots.{slot_count}
+use Rattle.validity.specs.Each.{each_below}
+use Rattle.validity.specs.Marks.{places}
+use Rattle.validity.specs.Valid.{fresh}
+use Rattle.validity.proofs.Each.{each_none, each_more, each_fails}
+use Rattle.validity.proofs.Marks.{Marked, unmarked, marked_more}
+use Rattle.validity.proofs.distinct.distinct.Goals as goal
+
+pub loop-i-init : goal.loop-i-init
+loop-i-init c = (search rules, search rules, each_none (fresh c.args.store.now), λ j h. let z : ⊥ = omega arith in absurd z)
+
+pub returns-then-not-fresh_at : goal.returns-then-not-fresh_at
+returns-then-not-fresh_at c =
+    let l : List ℕ = c.args.store.now in
+    sym (each_fails (fresh l) c.loop-i.i slot_count (omega arith) (sym c.fresh_at.ensures ∙ not-true c.fresh_at.result c.if-not-fresh_at.true-raw))
+
+pub loop-i-preserved : goal.loop-i-preserved
+loop-i-preserved c =
+    let l : List ℕ = c.args.store.now in
+    let t = c.loop-i in
+    let x = c.mark_place-place.ensures.0 in (
+      search rules,
+      search rules,
+      each_more (fresh l) t.i t.invariant.2
+          (⊎_elim (λ w. sym w.1.ensures ∙ not-false w.1.result w.2.left)
+          (λ w. unmarked l t.seen t.i t.invariant.3 (ap (λ (y : ℕ). get_or t.seen y 0) (sym x) ∙ w.left))
+          c.if-seen-place-ne0.branch),
+      marked_more l t.seen t.i c.mark_place-place.result x (omega (arith, c.mark_place-place.ensures.1)) t.invariant.3,
+    )
+
+pub returns : goal.returns
+returns c =
+    let e : c.loop-i.i ≡ slot_count = omega arith in
+    sym c.loop-i.invariant.2 ∙ ap (λ (n : ℕ). each_below n (fresh c.args.store.now)) e

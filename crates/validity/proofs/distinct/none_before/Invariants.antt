@@ -1,0 +1,17 @@
+-- One slot a turn. Assumes nothing.
+use Prim.Native.Nat.{ℕ, ◌-◌, ◌≤◌}
+use mathlib.Core.Path.{◌≡◌, sym, ap, ap₂, ◌∙◌}
+use mathlib.Core.Bool.{Bool, true, not, ◌&&◌}
+use native.Mathlib.Omega.{arith}
+use borrow.Author.Rules.{rules}
+use lib.Dec.{eqb}
+use Rattle.validity.specs.Each.{each_below}
+use Rattle.validity.specs.Valid.{differs}
+use Rattle.validity.proofs.Each.{each_none, each_more, each_fails}
+use Rattle.validity.proofs.distinct.none_before.Given as goal
+
+abbrev pub invariant-loop-j : goal.invariant-loop-j
+invariant-loop-j l = (l.j ≤ l.n) × (each_below l.j (differs l.store l.id) ≡ true)
+
+abbrev pub decreases-loop-j : goal.decreases-loop-j
+decreases-loop-j l = l.n - l.j
