@@ -32,9 +32,7 @@ loop-i-preserved c =
       search rules,
       search rules,
       each_more (fresh l) t.i t.invariant.2
-          (⊎_elim (λ w. sym w.1.ensures ∙ not-false w.1.result w.2.left)
-          (λ w. unmarked l t.seen t.i t.invariant.3 (ap (λ (y : ℕ). get_or t.seen y 0) (sym x) ∙ w.left))
-          c.if-seen-place-ne0.branch),
+          ?),
       marked_more l t.seen t.i c.mark_place-place.result x (omega (arith, c.mark_place-place.ensures.1)) t.invariant.3,
     )
 

@@ -1,0 +1,19 @@
+-- What is left of the permissions decides. Assumes nothing.
+use Prim.Native.Nat.{◌≤◌, ◌-◌}
+use mathlib.Core.Path.{◌≡◌, refl, sym, ap, ◌∙◌}
+use borrow.Author.Rules.{rules}
+use borrow.Author.Tests.{eq-eqb, ne_eqb}
+use lib.Dec.{eqb}
+use lib.Seq.{slice}
+use native.Mathlib.Omega.{arith}
+use Rattle.geo.proofs.Lists.{some_yes, some_no, some_end}
+use Rattle.scope.specs.Issued.{is_listed}
+use Rattle.store.specs.Slots.{permissions_at}
+use Rattle.store.proofs.Places.{permissions_long}
+use Rattle.chain.proofs.issuers.among_at.Given as goal
+
+abbrev pub invariant-loop-i : goal.invariant-loop-i
+invariant-loop-i l = (l.i ≤ l.n) × (is_listed l.value (slice l.i l.n (permissions_at l.store l.slot)) ≡ is_listed l.value (slice 0 l.n (permissions_at l.store l.slot)))
+
+abbrev pub decreases-loop-i : goal.decreases-loop-i
+decreases-loop-i l = l.n - l.i

@@ -1,0 +1,10 @@
+use mathlib.Core.Path.{refl, ◌∙◌}
+use Rattle.chain.proofs.Own.{place_none, place_asked}
+use borrow.Author.Rules.{rules}
+use Rattle.chain.proofs.signers.place_of.Goals as goal
+
+pub returns-in-Anywhere : goal.returns-in-Anywhere
+returns-in-Anywhere c = place_none _ _ c.in-Anywhere.is
+
+pub returns-in-At : goal.returns-in-At
+returns-in-At c = c.place_in.ensures ∙ place_asked _ _ _ _ c.in-At.is refl

@@ -1,0 +1,10 @@
+use mathlib.Core.Path.{◌∙◌}
+use borrow.Author.Rules.{rules}
+use Rattle.chain.proofs.Walked.{step_led, step_walked}
+use Rattle.chain.proofs.walking.walk_at.Goals as goal
+
+pub walk_on-requires : goal.walk_on-requires
+walk_on-requires c = (c.requires.1, step_led _ _ _ _ _ _ _ c.step_at-first.ensures)
+
+pub returns : goal.returns
+returns c = c.walk_on.ensures ∙ step_walked _ _ _ _ _ _ _ c.step_at-first.ensures
