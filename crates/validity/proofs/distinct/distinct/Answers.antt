@@ -1,7 +1,7 @@
 -- One slot a turn, and one mark. Assumes nothing.
 use Prim.Native.Nat.{ℕ, ◌-◌, ◌≤◌}
 use mathlib.Core.Path.{◌≡◌, sym, ap, ◌∙◌}
-use mathlib.Core.Logic.{⊎_elim}
+use Rattle.validity.proofs.distinct.distinct.Goals.{then-seen-place-ne0+else-not-fresh_at, else-seen-place-ne0}
 use mathlib.Core.Bool.{true}
 use mathlib.Core.List.{List}
 use native.Mathlib.Omega.{arith}
@@ -32,7 +32,10 @@ loop-i-preserved c =
       search rules,
       search rules,
       each_more (fresh l) t.i t.invariant.2
-          ?),
+          (elim c.if-seen-place-ne0.branch [
+            | then-seen-place-ne0+else-not-fresh_at w ↦ sym w.fresh_at.ensures ∙ w.if-not-fresh_at.false
+            | else-seen-place-ne0 w ↦ unmarked l t.seen t.i t.invariant.3 (ap (λ (y : ℕ). get_or t.seen y 0) (sym x) ∙ w.if-seen-place-ne0.false)
+          ]),
       marked_more l t.seen t.i c.mark_place-place.result x (omega (arith, c.mark_place-place.ensures.1)) t.invariant.3,
     )
 

@@ -1,0 +1,23 @@
+-- The invariant: some permissions are read, and their ITS-AIDs are kept. Assumes nothing.
+use Prim.Native.Nat.{ℕ, zero, suc, ◌-◌}
+use mathlib.Core.Path.{◌≡◌, refl, sym, ap, ◌∙◌}
+use mathlib.Core.List.{List, [], ◌∷◌, map}
+use native.Mathlib.Omega.{arith}
+use borrow.Author.Rules.{rules}
+use lib.ListN.{set}
+use Rattle.octets.specs.Reading.{Out, value_or}
+use Rattle.octets.specs.Numbers.{intx_at}
+use Rattle.octets.proofs.Laws.{was, clash}
+use Rattle.octets.proofs.Turns.{Reading, begin, again, stopped, done, fits, counted, filled}
+use Rattle.attributes.specs.Permissions.{unused, permission_of, permission_at}
+use Rattle.attributes.specs.declared.permissions.Permission.{Permission}
+use Rattle.entries.specs.Stored.{aid_of}
+use Rattle.entries.specs.Outlines.{aids_placed}
+use Rattle.entries.proofs.aids_in.Given as goal
+
+abbrev pub invariant-loop-at : goal.invariant-loop-at
+invariant-loop-at l =
+    (read : List Permission) × Reading (permission_at l.ssp) intx_at 16 unused l.s l.start read l.count l.at × (l.values ≡ map aid_of read)
+
+abbrev pub decreases-loop-at : goal.decreases-loop-at
+decreases-loop-at l = 17 - l.count
