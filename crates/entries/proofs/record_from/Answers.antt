@@ -30,6 +30,9 @@ octets_of-name-requires c = let f = inside (goal.at.octets_of-name-requires c).A
 pub octets_of-key-requires : goal.octets_of-key-requires
 octets_of-key-requires c = let f = inside (goal.at.octets_of-key-requires c).After-shared_slice_known-1 in (f.key_in, omega (arith, f.key_whole))
 
+pub overflow_sub-result : goal.overflow_sub-result
+overflow_sub-result c = let f = inside (goal.at.overflow_sub-result c).After-shared_slice_known-1 in ⊎_elim (λ e. omega (arith, e)) (λ e. omega (arith, e)) f.key_type
+
 pub returns : goal.returns
 unfolding record_from
 returns c = rw (c.id_from-id.ensures, c.issuer_of-issuer.ensures, c.scope_from-scope.ensures, c.octets_of-name.ensures, c.octets_of-key.ensures)

@@ -1,5 +1,5 @@
 -- The invariant is `Writing`: what is written, with what the rest of the set holds, is the whole set's list. Assumes nothing.
-use mathlib.Core.Logic.{⊎_elim}
+use Rattle.slot_lists.proofs.write_slots.Goals.{then-rest-eq1, else-rest-eq1}
 use Prim.Native.Nat.{◌-◌}
 use native.Mathlib.Omega.{arith}
 use Rattle.slot_lists.proofs.Writes.{Writing, start, pass, put, done, all_passed, none_left}
@@ -16,9 +16,10 @@ returns-then-rest-eq0 c = done _ _ _ _ _ _ c.loop-i.invariant (none_left _ _ c.i
 
 pub loop-i-preserved : goal.loop-i-preserved
 loop-i-preserved c =
-    ⊎_elim (λ w. rw (w.1, w.2) (put _ _ _ _ _ _ c.loop-i.invariant (omega arith) c.requires w.0.taken))
-    (λ w. rw (w.1, w.2) (pass _ _ _ _ _ _ c.loop-i.invariant (omega arith) w.0.left))
-    c.if-rest-eq1.branch
+    elim c.if-rest-eq1.branch [
+      | then-rest-eq1 w ↦ rw (w.lent-is, w.k-is) (put _ _ _ _ _ _ c.loop-i.invariant (omega arith) c.requires w.if-rest-eq1.true)
+      | else-rest-eq1 w ↦ rw (w.lent-is, w.k-is) (pass _ _ _ _ _ _ c.loop-i.invariant (omega arith) w.if-rest-eq1.false)
+    ]
 
 pub shape_of-lent : goal.shape_of-lent
 shape_of-lent c = c.loop-i.invariant.long

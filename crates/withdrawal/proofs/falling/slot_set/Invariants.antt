@@ -1,0 +1,14 @@
+-- The invariant: the set has the slots from i on. Assumes nothing.
+use mathlib.Core.Path.{◌≡◌, refl, ap, ◌∙◌}
+use Prim.Native.Nat.{ℕ, ◌+◌, ◌*◌, ◌^◌, ◌-◌, ◌≤◌, ◌<◌}
+use native.Mathlib.Omega.{arith}
+use Rattle.slot_lists.specs.Computed.{bits_from}
+use Rattle.slot_lists.proofs.SlotSets.{bits_top, bits_down, bits_zero, bit_small}
+use Rattle.withdrawal.specs.Computed.{falls_with}
+use Rattle.withdrawal.proofs.falling.slot_set.Given as goal
+
+abbrev pub invariant-loop-i : goal.invariant-loop-i
+invariant-loop-i l = (l.i ≤ 64) × (l.set ≡ bits_from (falls_with l.store l.second l.c) l.i (64 - l.i))
+
+abbrev pub decreases-loop-i : goal.decreases-loop-i
+decreases-loop-i l = l.i

@@ -1,0 +1,10 @@
+-- From the contracts of `list` and `withdraw` alone. Assumes nothing.
+use Rattle.withdrawal.proofs.Demand.{kept3}
+use borrow.Author.Rules.{rules}
+use Rattle.withdrawal.proofs.operations.list_then_withdraw.Goals as goal
+
+pub returns : goal.returns
+returns c =
+    let drawn = c.list-page.ensures in
+    let done = c.withdraw-withdrew.ensures in
+    (drawn, done, kept3 _ _ _ _ _ _ drawn done)
