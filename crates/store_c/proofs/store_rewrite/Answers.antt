@@ -32,5 +32,5 @@ returns c =
     let e : c.encode-octets.result ≡ image_of (record_of a.slot.now) = c.encode-octets.ensures ∙ ap image_of c.decode-r.ensures in
     let n : length c.encode-octets.result ≡ slot_length = ap length e ∙ image_long (record_of a.slot.now) in
     let d : drop (length c.encode-octets.result) a.image.now ≡ [] = let le : length a.image.now ≤ length c.encode-octets.result = omega (arith, n, c.if-image-ne-SLOT_LENGTH.false) in drop_of_length-le a.image.now le in
-    let w : c.write_front.new.0 ≡ image_of (record_of a.slot.now) = c.write_front.ensures ∙ ap (λ (t : List ℕ). c.encode-octets.result ++ t) d ∙ append-nil c.encode-octets.result ∙ e in
+    let w : c.write_front.new.buffer ≡ image_of (record_of a.slot.now) = c.write_front.ensures ∙ ap (λ (t : List ℕ). c.encode-octets.result ++ t) d ∙ append-nil c.encode-octets.result ∙ e in
     simp (eq-eqb _ _ c.if-slot-ne-SLOT_LENGTH.false, eq-eqb _ _ c.if-image-ne-SLOT_LENGTH.false, w)

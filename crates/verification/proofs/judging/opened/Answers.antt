@@ -48,7 +48,7 @@ good : (c : Else-not-valid) → valid_store c.args.store.now ≡ true
 good c = sym c.valid.ensures ∙ c.if-not-valid.false
 
 -- the message that was read
-read : (c : In-Value) → let octets = c.args.octets.now in (w : Message) × (whole_message octets ≡ got w c.in-Value.next) × (message_parts w ≡ c.in-Value.message)
+abbrev read : (c : In-Value) → let octets = c.args.octets.now in (w : Message) × (whole_message octets ≡ got w c.in-Value.next) × (message_parts w ≡ c.in-Value.message)
 read c = kept_got message_parts _ (was message_of c.read_message-read.ensures c.in-Value.is)
 
 -- its time

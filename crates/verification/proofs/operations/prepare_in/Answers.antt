@@ -19,7 +19,7 @@ use Rattle.verification.proofs.operations.prepare_in.Goals as goal
 use Rattle.verification.proofs.operations.prepare_in.Goals.{After-carried_signer-judged, After-named_signer-judged, In-Value}
 
 -- the message that was opened
-message : (c : In-Value) → let a = c.args in Opened a.store.now a.message.now a.x c.in-Value.m
+abbrev message : (c : In-Value) → let a = c.args in Opened a.store.now a.message.now a.x c.in-Value.m
 message c = opened_to _ _ _ _ (sym (ap opened_of c.in-Value.is) ∙ c.opened-read.ensures)
 
 -- its signer, whose certificate it carries
