@@ -13,8 +13,7 @@ use Rattle.slot_lists.specs.Listings.{Listing}
 use Rattle.overview.specs.Order.{standing_listing}
 use Rattle.overview.proofs.Laws.{look_few}
 use Rattle.nattveldi_c.specs.Calls.{list_answer, standing_call}
-use Rattle.nattveldi_c.proofs.nattveldi_standing.Statement.{statement}
-use Rattle.nattveldi_c.proofs.nattveldi_standing.Tie as tie
+use Rattle.nattveldi_c.proofs.nattveldi_standing.Goals as goal
 
 few : (p : Listing) (s : List ℕ) (t : ℕ) (l : List ℕ) → p ≡ standing_listing s t l → p.n ≤ slot_count
 few p s t l e = omega (arith, look_few s t l, ap (λ (q : Listing). q.n) e)
@@ -27,19 +26,10 @@ answered p s t l e = ap list_answer e
 abbrev left : List ℕ → List ℕ → ℤ → ℤ × List ℕ × List ℕ
 left list store z = (z, list, store)
 
-standing-requires : tie.Need-standing-requires
-standing-requires c κs = search rules
+pub counted-requires : goal.counted-requires
+counted-requires c = few _ _ _ _ c.standing-listed.ensures
 
-counted-requires : tie.Need-counted-requires
-counted-requires c κs = few _ _ _ _ c.before.before.standing.ensures
-
-same_length : tie.Need-same-length
-same_length c = search rules
-
-returns : tie.Need-returns
+pub returns : goal.returns
 returns c =
     let h : SFits w32 c.counted.result = search rules in
-    rw (to_z-of_z h) (ap (left _ _) c.counted.ensures ∙ answered _ _ _ _ c.before.before.before.standing.ensures)
-
-pub nattveldi-standing-spec : {M : Type 1} → statement M
-nattveldi-standing-spec = tie.close (tie.spec standing-requires counted-requires same_length returns)
+    rw (to_z-of_z h) (ap (left _ _) c.counted.ensures ∙ answered _ _ _ _ c.standing-listed.ensures)

@@ -13,8 +13,7 @@ use Rattle.slot_lists.specs.Listings.{Listing}
 use Rattle.withdrawal.specs.Order.{page}
 use Rattle.page_text.proofs.Pages.{page_slots}
 use Rattle.nattveldi_c.specs.Calls.{list_answer, list_call}
-use Rattle.nattveldi_c.proofs.nattveldi_list.Statement.{statement}
-use Rattle.nattveldi_c.proofs.nattveldi_list.Tie as tie
+use Rattle.nattveldi_c.proofs.nattveldi_list.Goals as goal
 
 few : (p : Listing) (s id : List ℕ) (t : ℕ) (l : List ℕ) → p ≡ page s id t l → p.n ≤ slot_count
 few p s id t l e = omega (arith, (page_slots s id t l).few, ap (λ (q : Listing). q.n) e)
@@ -27,19 +26,10 @@ answered p s id t l e = ap list_answer e
 abbrev left : List ℕ → List ℕ → ℤ → ℤ × List ℕ × List ℕ
 left list store z = (z, list, store)
 
-list-requires : tie.Need-list-requires
-list-requires c κs = search rules
+pub counted-requires : goal.counted-requires
+counted-requires c = few _ _ _ _ _ c.list-listed.ensures
 
-counted-requires : tie.Need-counted-requires
-counted-requires c κs = few _ _ _ _ _ c.before.before.list.ensures
-
-same_length : tie.Need-same-length
-same_length c = search rules
-
-returns : tie.Need-returns
+pub returns : goal.returns
 returns c =
     let h : SFits w32 c.counted.result = search rules in
-    rw (to_z-of_z h) (ap (left _ _) c.counted.ensures ∙ answered _ _ _ _ _ c.before.before.before.list.ensures)
-
-pub nattveldi-list-spec : {M : Type 1} → statement M
-nattveldi-list-spec = tie.close (tie.spec list-requires counted-requires same_length returns)
+    rw (to_z-of_z h) (ap (left _ _) c.counted.ensures ∙ answered _ _ _ _ _ c.list-listed.ensures)
