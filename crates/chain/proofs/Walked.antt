@@ -6,7 +6,7 @@ use mathlib.Core.Option.{Option, none, some}
 use Prim.Native.Nat.{ℕ, zero, suc, ◌-◌, ◌<◌}
 use native.Mathlib.Nat.{suc-ne-zero}
 use borrow.Author.Tests.{eq-eqb, ne_eqb, eqb-true, eqb-false}
-use Rattle.order.specs.Steps.{Answer, gives, refused, onward, Steps, done, stop, take, fork, run, needs, Coded, no_row, coded, Named}
+use Rattle.order.specs.Steps.{Answer, gives, refused, onward, done, stop, take, fork, run, needs, Coded, no_row, coded, Named}
 use Rattle.order.proofs.Steps.{gives_exactly, run_named, refuses_exactly, gives_refused, run_follow, needs_to, needs_from, needs_refuse_first, all_pass, first_fails}
 use lib.Dec.{eqb}
 use Rattle.octets.specs.Refusals.{UNKNOWN, CHAIN_TOO_LONG}

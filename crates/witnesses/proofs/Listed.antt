@@ -13,7 +13,6 @@ use Rattle.geo.specs.Area.{inside_of}
 use Rattle.bitfields.specs.Field.{number, digits_at, field, octets, with_digits}
 use Rattle.bitfields.specs.Runs.{fields_of}
 use Rattle.records.specs.Records.{region_of, permissions_of, scope_of, items_of}
-use Rattle.records.specs.declared.Record.{Record}
 use Rattle.store.specs.Slots.{state_at, filled_at, id_at, issuer_at, slot_count}
 use Rattle.store.specs.Search.{lowest_from, find}
 use Rattle.validity.specs.Each.{each_below}

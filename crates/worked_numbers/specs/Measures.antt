@@ -1,5 +1,5 @@
 -- The measures that document 01 gives as numbers and the definitions derive ("The store"; "Numbers, lengths and vectors").
-use Rattle.std.specs.Prelude.{ℕ, ◌*◌, ◌≡◌, List, [], ◌∷◌, map}
+use Rattle.std.specs.Prelude.{ℕ, ◌*◌, ◌≡◌, [], ◌∷◌, map}
 use Rattle.records.specs.Layout.{Extent, layout, slot_bits, slot_length}
 use Rattle.store.specs.Slots.{slot_count, store_length}
 use Rattle.validity.specs.Good.{latest_end}

@@ -1,18 +1,12 @@
 -- The invariant: some permissions are read, and their ITS-AIDs are kept. Assumes nothing.
-use Prim.Native.Nat.{ℕ, zero, suc, ◌-◌}
-use mathlib.Core.Path.{◌≡◌, refl, sym, ap, ◌∙◌}
-use mathlib.Core.List.{List, [], ◌∷◌, map}
-use native.Mathlib.Omega.{arith}
-use borrow.Author.Rules.{rules}
-use lib.ListN.{set}
-use Rattle.octets.specs.Reading.{Out, value_or}
+use Prim.Native.Nat.{◌-◌}
+use mathlib.Core.Path.{◌≡◌}
+use mathlib.Core.List.{List, map}
 use Rattle.octets.specs.Numbers.{intx_at}
-use Rattle.octets.proofs.Laws.{was, clash}
-use Rattle.octets.proofs.Turns.{Reading, begin, again, stopped, done, fits, counted, filled}
-use Rattle.attributes.specs.Permissions.{unused, permission_of, permission_at}
+use Rattle.octets.proofs.Turns.{Reading}
+use Rattle.attributes.specs.Permissions.{unused, permission_at}
 use Rattle.attributes.specs.declared.permissions.Permission.{Permission}
 use Rattle.entries.specs.Stored.{aid_of}
-use Rattle.entries.specs.Outlines.{aids_placed}
 use Rattle.entries.proofs.aids_in.Given as goal
 
 abbrev pub invariant-loop-at : goal.invariant-loop-at

@@ -5,7 +5,6 @@ use lib.ListN.{take, drop, set}
 use native.Mathlib.Omega.{arith}
 use Rattle.sha256.specs.Hash.{sha256}
 use Rattle.entries.specs.Stored.{id_from}
-use borrow.Author.Rules.{rules}
 use Rattle.entries.proofs.id_from.Goals as goal
 
 pub returns : goal.returns

@@ -1,7 +1,6 @@
 -- Octets in front of zeros. Assumes nothing.
 use mathlib.Core.Path.{◌∙◌}
 use Rattle.entries.proofs.Fronts.{front_padded}
-use borrow.Author.Rules.{rules}
 use Rattle.entries.proofs.in_eight.Goals as goal
 
 pub returns : goal.returns

@@ -4,7 +4,6 @@ use Prim.Native.Nat.{ℕ, ◌+◌, ◌-◌}
 use lib.ListN.{take, drop}
 use native.Mathlib.Omega.{arith}
 use Rattle.octets.specs.Items.{padded}
-use borrow.Author.Rules.{rules}
 use Rattle.entries.proofs.octets_of.Goals as goal
 
 pub returns : goal.returns

@@ -6,7 +6,6 @@ use Rattle.nattveldi_c.specs.Calls.{read_answer, read_call}
 use Rattle.octets.proofs.Laws.{chosen, passed}
 use borrow.Author.Tests.{lt-ltb, le-ltb, eq-eqb, ne_eqb}
 use mathlib.Core.Path.{sym, ◌∙◌, ap}
-use borrow.Author.Rules.{rules}
 use Rattle.nattveldi_c.proofs.nattveldi_read.Goals as goal
 
 -- `nattveldi_c::nattveldi_read` meets its contract. Assumes nothing.

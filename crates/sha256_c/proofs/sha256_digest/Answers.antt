@@ -6,7 +6,6 @@ use borrow.Author.Tests.{lt-ltb, le-ltb}
 use Rattle.octets.proofs.Laws.{chosen, passed}
 use mathlib.Core.List.{List}
 use mathlib.Core.Path.{sym, ◌∙◌, ap}
-use borrow.Author.Rules.{rules}
 use Rattle.sha256_c.proofs.sha256_digest.Goals as goal
 
 pub returns-then-digest-lt32 : goal.returns-then-digest-lt32

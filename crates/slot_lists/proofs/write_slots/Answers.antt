@@ -1,8 +1,7 @@
 -- The invariant is `Writing`: what is written, with what the rest of the set holds, is the whole set's list. Assumes nothing.
 use Rattle.slot_lists.proofs.write_slots.Goals.{then-rest-eq1, else-rest-eq1}
-use Prim.Native.Nat.{◌-◌}
 use native.Mathlib.Omega.{arith}
-use Rattle.slot_lists.proofs.Writes.{Writing, start, pass, put, done, all_passed, none_left}
+use Rattle.slot_lists.proofs.Writes.{start, pass, put, done, all_passed, none_left}
 use Rattle.slot_lists.proofs.write_slots.Goals as goal
 
 pub loop-i-init : goal.loop-i-init

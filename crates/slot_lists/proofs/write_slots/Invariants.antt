@@ -1,8 +1,6 @@
 -- The invariant is `Writing`: what is written, with what the rest of the set holds, is the whole set's list. Assumes nothing.
-use mathlib.Core.Logic.{⊎_elim}
 use Prim.Native.Nat.{◌-◌}
-use native.Mathlib.Omega.{arith}
-use Rattle.slot_lists.proofs.Writes.{Writing, start, pass, put, done, all_passed, none_left}
+use Rattle.slot_lists.proofs.Writes.{Writing}
 use Rattle.slot_lists.proofs.write_slots.Given as goal
 
 abbrev pub invariant-loop-i : goal.invariant-loop-i

@@ -11,7 +11,6 @@ use Rattle.records.specs.Records.{record_of, image_of}
 use Rattle.records.proofs.Decoded.{decoded_in_range}
 use Rattle.records.proofs.Fields.{image_long}
 use Rattle.store_c.specs.Calls.{rewrite_call}
-use borrow.Author.Rules.{rules}
 use Rattle.store_c.proofs.store_rewrite.Goals as goal
 
 pub returns-then-slot-ne-SLOT_LENGTH : goal.returns-then-slot-ne-SLOT_LENGTH

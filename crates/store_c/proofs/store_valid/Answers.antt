@@ -4,7 +4,6 @@ use mathlib.Core.Bool.{true, false}
 use borrow.Author.Tests.{eq-eqb, ne_eqb, not-true, not-false}
 use Rattle.validity.specs.Valid.{valid_store}
 use Rattle.store_c.specs.Calls.{valid_call}
-use borrow.Author.Rules.{rules}
 use Rattle.store_c.proofs.store_valid.Goals as goal
 
 pub returns-then-store-ne-STORE_LENGTH : goal.returns-then-store-ne-STORE_LENGTH

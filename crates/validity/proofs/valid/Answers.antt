@@ -10,7 +10,6 @@ use lib.ListN.{length}
 use Rattle.store.specs.Slots.{slot_count, store_length}
 use Rattle.validity.specs.Each.{each_below}
 use Rattle.validity.specs.Valid.{slot_good, fresh, valid_store}
-use borrow.Author.Rules.{rules}
 use Rattle.validity.proofs.valid.Goals as goal
 
 tests : (l : List ℕ) {x y z : Bool} → eqb (length l) store_length ≡ x → each_below slot_count (slot_good l) ≡ y → each_below slot_count (fresh l) ≡ z → x && (y && z) ≡ valid_store l

@@ -2,7 +2,6 @@
 use mathlib.Core.Path.{sym, ap, ◌∙◌}
 use Rattle.scope.specs.Issued.{issued_number}
 use Rattle.admission.proofs.Tests.{below_withdrawn, below_held}
-use borrow.Author.Rules.{rules}
 use Rattle.admission.proofs.issuers.below.Goals as goal
 
 pub returns-then-withdrawn : goal.returns-then-withdrawn

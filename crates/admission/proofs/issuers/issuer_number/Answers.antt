@@ -3,7 +3,6 @@ use mathlib.Core.Path.{sym, ap, ◌∙◌}
 use Rattle.store.specs.Search.{found_of}
 use Rattle.store.proofs.Found.{find_finds, found_again}
 use Rattle.admission.proofs.Tests.{issuer_unknown, issuer_found}
-use borrow.Author.Rules.{rules}
 use Rattle.admission.proofs.issuers.issuer_number.Goals as goal
 
 pub below-requires : goal.below-requires

@@ -14,11 +14,9 @@ use Rattle.records.specs.Ranges.{InRange}
 use Rattle.records.specs.declared.Record.{Record}
 use Rattle.entries.specs.Readable.{accepted}
 use Rattle.admission.specs.Computed.{placed}
-use Rattle.geo.proofs.Bools.{of_not}
 use Rattle.entries.proofs.Facts.{facts}
 use Rattle.entries.proofs.Standing.{outlined_standing}
 use Rattle.admission.proofs.Entered.{unread_positive, entered_length, entered_bad, entered_unread, entered_kind, entered_placed}
-use borrow.Author.Rules.{rules}
 use Rattle.admission.proofs.operations.enter.Goals as goal
 use Rattle.admission.proofs.operations.enter.Goals.{In-Value}
 

@@ -2,7 +2,6 @@
 use mathlib.Core.Path.{sym, ap, ◌∙◌}
 use Rattle.store.specs.Search.{found_of}
 use Rattle.admission.specs.Order.{absent}
-use borrow.Author.Rules.{rules}
 use Rattle.admission.proofs.operations.is_new.Goals as goal
 
 pub returns-in-Nowhere : goal.returns-in-Nowhere

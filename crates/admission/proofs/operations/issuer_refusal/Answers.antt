@@ -3,7 +3,6 @@ use Prim.Native.Nat.{ℕ}
 use mathlib.Core.Path.{ap, ◌∙◌}
 use Rattle.admission.specs.Computed.{issuer_number}
 use Rattle.admission.proofs.Tests.{anchor_passes, issuer_asked}
-use borrow.Author.Rules.{rules}
 use Rattle.admission.proofs.operations.issuer_refusal.Goals as goal
 
 pub returns-then-anchor : goal.returns-then-anchor

@@ -3,7 +3,6 @@ use mathlib.Core.Path.{sym, ap, ◌∙◌}
 use Rattle.store.specs.Search.{found_of}
 use Rattle.store.proofs.Found.{empty_finds}
 use Rattle.admission.proofs.Entered.{pair, placed_stops, placed_full, placed_slot}
-use borrow.Author.Rules.{rules}
 use Rattle.admission.proofs.operations.place.Goals as goal
 
 pub returns-then-refusal-ne-ACCEPTED : goal.returns-then-refusal-ne-ACCEPTED

@@ -5,9 +5,7 @@ use borrow.Author.Tests.{eq-eqb, ne_eqb}
 use Rattle.bitfields.specs.Field.{number}
 use Rattle.store.specs.Search.{find}
 use Rattle.admission.specs.Order.{absent}
-use Rattle.geo.proofs.Bools.{of_not}
 use Rattle.admission.proofs.Tests.{test_held, test_issuer, test_signature, test_passes}
-use borrow.Author.Rules.{rules}
 use Rattle.admission.proofs.operations.test_number.Goals as goal
 use Rattle.admission.proofs.operations.test_number.Goals.{After-is_new}
 

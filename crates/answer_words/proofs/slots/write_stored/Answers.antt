@@ -1,9 +1,7 @@
 -- One writing after the other. Assumes nothing.
 use mathlib.Core.Path.{ap, ◌∙◌}
-use mathlib.Core.List.{List}
 use Rattle.answer_words.specs.Slots.{with_terms, with_name_and_key, with_region, with_permissions}
 use Rattle.answer_words.specs.Slots.{with_stored}
-use borrow.Author.Rules.{rules}
 use Rattle.answer_words.proofs.slots.write_stored.Goals as goal
 
 pub returns : goal.returns

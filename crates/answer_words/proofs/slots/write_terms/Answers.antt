@@ -1,5 +1,4 @@
 use Rattle.answer_words.specs.Slots.{with_terms}
-use borrow.Author.Rules.{rules}
 use Rattle.answer_words.proofs.slots.write_terms.Goals as goal
 
 pub returns : goal.returns

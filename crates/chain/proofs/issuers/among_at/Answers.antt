@@ -1,13 +1,10 @@
 -- What is left of the permissions decides. Assumes nothing.
-use Prim.Native.Nat.{◌≤◌, ◌-◌}
-use mathlib.Core.Path.{◌≡◌, refl, sym, ap, ◌∙◌}
+use mathlib.Core.Path.{refl, sym, ap, ◌∙◌}
 use borrow.Author.Rules.{rules}
 use borrow.Author.Tests.{eq-eqb, ne_eqb}
 use lib.Dec.{eqb}
-use lib.Seq.{slice}
 use native.Mathlib.Omega.{arith}
 use Rattle.geo.proofs.Lists.{some_yes, some_no, some_end}
-use Rattle.scope.specs.Issued.{is_listed}
 use Rattle.store.specs.Slots.{permissions_at}
 use Rattle.store.proofs.Places.{permissions_long}
 use Rattle.chain.proofs.issuers.among_at.Goals as goal

@@ -1,15 +1,13 @@
 -- What is left of the subject's permissions decides. Assumes nothing.
-use Prim.Native.Nat.{ℕ, ◌≤◌, ◌-◌}
+use Prim.Native.Nat.{ℕ}
 use mathlib.Core.Path.{◌≡◌, refl, sym, ap, ◌∙◌}
 use mathlib.Core.Bool.{Bool}
 use mathlib.Core.List.{List}
 use borrow.Author.Rules.{rules}
-use borrow.Author.Tests.{not-true, not-false}
 use lib.ListN.{take}
-use lib.Seq.{slice}
 use native.Mathlib.Omega.{arith}
 use Rattle.geo.proofs.Lists.{each_yes, each_no, each_end}
-use Rattle.scope.specs.Issued.{is_listed, all_listed}
+use Rattle.scope.specs.Issued.{is_listed}
 use Rattle.store.specs.Slots.{permissions_at}
 use Rattle.store.proofs.Places.{permissions_long}
 use Rattle.chain.proofs.issuers.each_among_at.Goals as goal

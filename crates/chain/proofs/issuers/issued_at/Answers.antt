@@ -1,10 +1,9 @@
 -- A return for each row. Assumes nothing.
 use mathlib.Core.Path.{sym, ◌∙◌}
-use borrow.Author.Tests.{eq-eqb, ne_eqb, not-true, not-false}
+use borrow.Author.Tests.{eq-eqb, ne_eqb}
 use Rattle.order.specs.Steps.{first_of}
 use Rattle.records.specs.Records.{scope_of}
 use Rattle.scope.specs.Issued.{issued_number}
-use borrow.Author.Rules.{rules}
 use Rattle.chain.proofs.issuers.issued_at.Goals as goal
 
 pub returns-then-kind_at-eq-TICKET : goal.returns-then-kind_at-eq-TICKET

@@ -1,6 +1,5 @@
 -- The four ends. Assumes nothing.
 use Rattle.records.specs.Records.{scope_of}
-use borrow.Author.Rules.{rules}
 use Rattle.chain.proofs.issuers.period_inside_at.Goals as goal
 
 pub returns : goal.returns

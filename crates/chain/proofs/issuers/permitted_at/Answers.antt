@@ -1,6 +1,5 @@
 -- The permissions that count, of each. Assumes nothing.
 use mathlib.Core.Path.{ap₂, ◌∙◌}
-use borrow.Author.Rules.{rules}
 use Rattle.scope.specs.Issued.{all_listed}
 use Rattle.chain.proofs.issuers.permitted_at.Goals as goal
 

@@ -7,7 +7,6 @@ use Rattle.geo.specs.declared.Region.{Region}
 use Rattle.geo.proofs.Regions.{inside_everywhere}
 use Rattle.records.specs.Records.{region_of}
 use Rattle.store.specs.Slots.{slot_of}
-use borrow.Author.Rules.{rules}
 use Rattle.chain.proofs.issuers.region_inside_at.Goals as goal
 
 pub returns-then-region_count_at-eq0 : goal.returns-then-region_count_at-eq0

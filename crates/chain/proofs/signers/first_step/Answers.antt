@@ -1,6 +1,5 @@
 use mathlib.Core.Path.{sym, ◌∙◌}
 use Rattle.chain.proofs.Walked.{at_own, at_root, at_last, at_up}
-use borrow.Author.Rules.{rules}
 use Rattle.chain.proofs.signers.first_step.Goals as goal
 
 pub returns-then-refusal-ne-ACCEPTED : goal.returns-then-refusal-ne-ACCEPTED

@@ -1,7 +1,6 @@
 use mathlib.Core.Path.{sym, ap, ◌∙◌}
 use Rattle.scope.specs.Issued.{issued_number}
 use Rattle.chain.proofs.Walked.{linked_refused, linked_on}
-use borrow.Author.Rules.{rules}
 use Rattle.chain.proofs.signers.link.Goals as goal
 
 pub returns-then-refusal-ne-ACCEPTED : goal.returns-then-refusal-ne-ACCEPTED

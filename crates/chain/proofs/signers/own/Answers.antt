@@ -1,7 +1,6 @@
 use mathlib.Core.Path.{sym, ◌∙◌}
 use native.Mathlib.Omega.{arith}
 use Rattle.chain.proofs.Own.{own_gone, own_early, own_late, own_place}
-use borrow.Author.Rules.{rules}
 use Rattle.chain.proofs.signers.own.Goals as goal
 
 pub returns-then-withdrawn_id : goal.returns-then-withdrawn_id

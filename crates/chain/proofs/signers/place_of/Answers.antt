@@ -1,6 +1,5 @@
 use mathlib.Core.Path.{refl, ◌∙◌}
 use Rattle.chain.proofs.Own.{place_none, place_asked}
-use borrow.Author.Rules.{rules}
 use Rattle.chain.proofs.signers.place_of.Goals as goal
 
 pub returns-in-Anywhere : goal.returns-in-Anywhere

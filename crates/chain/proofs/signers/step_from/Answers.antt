@@ -2,7 +2,6 @@ use mathlib.Core.Path.{sym, ap, ◌∙◌}
 use Rattle.store.specs.Search.{found_of}
 use Rattle.store.proofs.Found.{find_finds}
 use Rattle.chain.proofs.Walked.{up_unknown, up_linked}
-use borrow.Author.Rules.{rules}
 use Rattle.chain.proofs.signers.step_from.Goals as goal
 
 pub link-requires : goal.link-requires

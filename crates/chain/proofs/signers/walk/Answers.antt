@@ -1,6 +1,5 @@
 use mathlib.Core.Path.{◌∙◌}
 use Rattle.chain.proofs.Own.{none_also}
-use borrow.Author.Rules.{rules}
 use Rattle.chain.proofs.signers.walk.Goals as goal
 
 pub returns : goal.returns

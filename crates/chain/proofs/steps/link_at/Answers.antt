@@ -1,6 +1,5 @@
 use mathlib.Core.Path.{sym, ◌∙◌}
 use Rattle.chain.proofs.Walked.{linked_refused, linked_on}
-use borrow.Author.Rules.{rules}
 use Rattle.chain.proofs.steps.link_at.Goals as goal
 
 pub returns-then-refusal-ne-ACCEPTED : goal.returns-then-refusal-ne-ACCEPTED

@@ -3,7 +3,6 @@ use native.Mathlib.Omega.{arith}
 use Rattle.records.specs.Records.{scope_of}
 use Rattle.chain.specs.Stored.{subject_at}
 use Rattle.chain.proofs.Own.{own_gone, own_early, own_late, own_place, slot_gone, slot_other}
-use borrow.Author.Rules.{rules}
 use Rattle.chain.proofs.steps.own_at.Goals as goal
 
 pub returns-then-slot-gone : goal.returns-then-slot-gone

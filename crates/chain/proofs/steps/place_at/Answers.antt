@@ -1,7 +1,6 @@
 use mathlib.Core.Path.{◌∙◌}
 use Rattle.records.specs.Records.{scope_of}
 use Rattle.chain.proofs.Own.{place_none, place_asked}
-use borrow.Author.Rules.{rules}
 use Rattle.chain.proofs.steps.place_at.Goals as goal
 
 pub returns-in-Anywhere : goal.returns-in-Anywhere

@@ -1,6 +1,5 @@
 use mathlib.Core.Path.{sym, ap, ◌∙◌}
 use Prim.Native.Nat.{ℕ}
-use borrow.Author.Rules.{rules}
 use Rattle.order.specs.Steps.{refused}
 use Rattle.chain.proofs.Walked.{kind_of, step_own, step_root, step_last, step_upward}
 use Rattle.chain.proofs.steps.step_at.Goals as goal

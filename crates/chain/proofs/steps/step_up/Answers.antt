@@ -3,7 +3,6 @@ use Rattle.store.specs.Search.{found_of, find}
 use Rattle.store.proofs.Found.{find_finds}
 use Rattle.chain.specs.Stored.{subject_at}
 use Rattle.chain.proofs.Walked.{up_unknown, up_linked}
-use borrow.Author.Rules.{rules}
 use Rattle.chain.proofs.steps.step_up.Goals as goal
 
 pub link_at-requires : goal.link_at-requires

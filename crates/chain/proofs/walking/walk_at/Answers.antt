@@ -1,5 +1,4 @@
 use mathlib.Core.Path.{◌∙◌}
-use borrow.Author.Rules.{rules}
 use Rattle.chain.proofs.Walked.{step_led, step_walked}
 use Rattle.chain.proofs.walking.walk_at.Goals as goal
 

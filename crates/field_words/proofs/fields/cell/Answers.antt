@@ -2,7 +2,6 @@
 use Rattle.octets.proofs.Laws.{chosen, passed}
 use borrow.Author.Tests.{eq-eqb, ne_eqb}
 use mathlib.Core.Path.{sym, ◌∙◌}
-use borrow.Author.Rules.{rules}
 use Rattle.field_words.proofs.fields.cell.Goals as goal
 
 pub returns-then-which-eq0 : goal.returns-then-which-eq0

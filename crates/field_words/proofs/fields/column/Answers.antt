@@ -2,7 +2,7 @@ use Rattle.attributes.specs.Permissions.{unused}
 use Rattle.field_words.proofs.Flags.{cell_unused}
 use lib.ListN.{get_or-map, length-map}
 use lib.ListN.{replicate}
-use Prim.Native.Nat.{◌+◌, ◌≤◌, ◌-◌}
+use Prim.Native.Nat.{◌+◌}
 use Rattle.octets.proofs.Pasted.{paste_next, paste_all}
 use Rattle.field_words.specs.Fields.{cell_of}
 use borrow.Author.Rules.{rules}

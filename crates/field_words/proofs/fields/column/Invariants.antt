@@ -1,16 +1,9 @@
-use Rattle.attributes.specs.Permissions.{unused}
-use Rattle.field_words.proofs.Flags.{cell_unused}
-use lib.ListN.{get_or-map, length-map}
-use lib.ListN.{replicate}
-use Prim.Native.Nat.{◌+◌, ◌≤◌, ◌-◌}
-use Rattle.octets.proofs.Pasted.{paste_next, paste_all}
+use Prim.Native.Nat.{◌≤◌, ◌-◌}
 use Rattle.field_words.specs.Fields.{cell_of}
-use borrow.Author.Rules.{rules}
-use lib.ListN.{length, get_or, length-set}
-use lib.Seq.{paste, paste-zero}
-use mathlib.Core.List.{map, append-nil}
-use mathlib.Core.Path.{◌≡◌, refl, sym, ap, ◌∙◌}
-use native.Mathlib.Omega.{arith}
+use lib.ListN.{length}
+use lib.Seq.{paste}
+use mathlib.Core.List.{map}
+use mathlib.Core.Path.{◌≡◌}
 use Rattle.field_words.proofs.fields.column.Given as goal
 
 -- `field_words::fields::column` meets its contract. The invariant: the first cells are copied. Assumes nothing.

@@ -1,6 +1,5 @@
 -- `field_words::fields::write_rectangles` meets its contract: one writing after the other. Assumes nothing.
 use Rattle.field_words.proofs.Rectangles.{rectangles_written}
-use borrow.Author.Rules.{rules}
 use Rattle.field_words.proofs.fields.write_rectangles.Goals as goal
 
 pub returns : goal.returns

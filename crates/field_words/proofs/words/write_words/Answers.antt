@@ -1,11 +1,10 @@
 -- `field_words::words::write_words` meets its contract. The invariant: the octets of the first words are copied. Assumes nothing.
-use Prim.Native.Nat.{◌*◌, ◌≤◌, ◌-◌}
+use Prim.Native.Nat.{◌*◌}
 use Rattle.field_words.proofs.Pasted.{paste_word, paste_words}
 use Rattle.field_words.specs.Words.{words_octets}
-use borrow.Author.Rules.{rules}
-use lib.ListN.{length, length-set}
-use lib.Seq.{paste, paste-zero}
-use mathlib.Core.Path.{◌≡◌, refl, ◌∙◌}
+use lib.ListN.{length-set}
+use lib.Seq.{paste-zero}
+use mathlib.Core.Path.{refl, ◌∙◌}
 use native.Mathlib.Omega.{arith}
 use Rattle.field_words.proofs.words.write_words.Goals as goal
 

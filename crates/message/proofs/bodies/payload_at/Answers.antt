@@ -1,7 +1,6 @@
 -- `message::bodies::payload_at` meets its contract. Assumes nothing.
 use Rattle.message.specs.Bodies.{payload_at}
 use Rattle.octets.proofs.Laws.{fail, pass, stop, then, was_out}
-use borrow.Author.Rules.{rules}
 use borrow.Author.Tests.{not-false, not-true}
 use mathlib.Core.Path.{◌∙◌, sym}
 use Rattle.message.proofs.bodies.payload_at.Goals as goal

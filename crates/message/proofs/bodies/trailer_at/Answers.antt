@@ -4,7 +4,6 @@ use Rattle.message.specs.Bodies.{trailer_at}
 use Rattle.octets.proofs.Inside.{span_inside}
 use Rattle.octets.proofs.Laws.{stop, then, was}
 use Rattle.octets.specs.Vectors.{span_of}
-use borrow.Author.Rules.{rules}
 use lib.Seq.{length-take-le}
 use mathlib.Core.Path.{◌∙◌, sym}
 use Rattle.message.proofs.bodies.trailer_at.Goals as goal

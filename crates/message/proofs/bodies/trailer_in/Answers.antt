@@ -3,7 +3,6 @@ use Rattle.certificate.specs.Signatures.{signature_of}
 use Rattle.message.specs.Bodies.{trailer_in, trailer_steps}
 use Rattle.octets.proofs.Laws.{Left, fail, pass, refused_by, stop, then, was, was_out}
 use Rattle.octets.specs.Vectors.{place_of}
-use borrow.Author.Rules.{rules}
 use borrow.Author.Tests.{le-leb, le-ltb, lt-leb, lt-ltb}
 use mathlib.Core.Path.{◌∙◌, sym}
 use Rattle.message.proofs.bodies.trailer_in.Goals as goal

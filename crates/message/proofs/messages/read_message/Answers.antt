@@ -1,7 +1,6 @@
 -- `message::messages::read_message` meets its contract: the definition is followed step by step. Assumes nothing.
 use mathlib.Core.Path.{◌≡◌, ◌∙◌, ap, sym}
 use Prim.Native.Nat.{ℕ}
-use borrow.Author.Rules.{rules}
 use borrow.Author.Tests.{le-leb, lt-leb}
 use Rattle.octets.specs.Reading.{got, kept}
 use Rattle.octets.specs.Vectors.{place_of, span_of}

@@ -6,7 +6,6 @@ use Rattle.message.specs.Signers.{carried_at}
 use Rattle.octets.proofs.Laws.{stop, then, was, refused_by}
 use Rattle.octets.specs.Reading.{kept}
 use mathlib.Core.Path.{ap, sym, ◌∙◌}
-use borrow.Author.Rules.{rules}
 use Rattle.message.proofs.signers.carried_at.Goals as goal
 
 pub returns-in_default : goal.returns-in_default

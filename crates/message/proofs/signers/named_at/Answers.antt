@@ -5,7 +5,6 @@ use Rattle.message.specs.Parts.{signer_parts}
 use Rattle.message.specs.Signers.{named_at}
 use Rattle.octets.proofs.Laws.{stop, then, was}
 use Rattle.octets.specs.Vectors.{span_of}
-use borrow.Author.Rules.{rules}
 use mathlib.Core.Path.{ap, sym}
 use Rattle.message.proofs.signers.named_at.Goals as goal
 

@@ -1,5 +1,4 @@
 -- `message::signers::no_signer` meets its contract. Assumes nothing.
-use borrow.Author.Rules.{rules}
 use Rattle.message.proofs.signers.no_signer.Goals as goal
 
 pub returns : goal.returns

@@ -5,7 +5,6 @@ use Rattle.message.specs.Parts.{signer_parts}
 use Rattle.message.specs.Signers.{unsigned, signer_at}
 use Rattle.octets.proofs.Laws.{chosen, fail, pass, passed}
 use Rattle.octets.specs.Reading.{refused, kept}
-use borrow.Author.Rules.{rules}
 use borrow.Author.Tests.{eq-eqb, le-ltb, lt-ltb, ne_eqb}
 use mathlib.Core.Path.{◌∙◌, ap, sym}
 use Rattle.message.proofs.signers.signer_at.Goals as goal

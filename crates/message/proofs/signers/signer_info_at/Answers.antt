@@ -4,7 +4,6 @@ use Rattle.message.specs.Parts.{signer_parts}
 use Rattle.message.specs.Signers.{signer_info_at}
 use Rattle.octets.proofs.Laws.{chosen, fail, pass, passed, stop, then, was}
 use Rattle.octets.specs.Numbers.{octet_of}
-use borrow.Author.Rules.{rules}
 use borrow.Author.Tests.{eq-eqb, ne_eqb}
 use mathlib.Core.Path.{◌∙◌, ap, sym}
 use Rattle.message.proofs.signers.signer_info_at.Goals as goal

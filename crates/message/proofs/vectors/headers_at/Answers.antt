@@ -8,7 +8,6 @@ use Rattle.octets.proofs.Inside.{span_inside}
 use Rattle.octets.proofs.Laws.{stop, then, was}
 use Rattle.octets.specs.Reading.{got, kept}
 use Rattle.octets.specs.Vectors.{span_of}
-use borrow.Author.Rules.{rules}
 use lib.Seq.{length-take-le}
 use mathlib.Core.Path.{◌∙◌, ap, sym}
 use Rattle.message.proofs.vectors.headers_at.Goals as goal

@@ -5,10 +5,8 @@ use Rattle.message.specs.Parts.{signer_of, signer_parts, header_parts}
 use Rattle.message.specs.Signers.{signer_at}
 use Rattle.message.specs.Vectors.{headers_in}
 use Rattle.message.specs.declared.signers.SignerParts.{SignerParts}
-use Rattle.message.specs.declared.vectors.HeaderParts.{HeaderParts}
 use Rattle.octets.proofs.Laws.{refused_by, stop, then, was}
 use Rattle.octets.specs.Reading.{got, kept}
-use borrow.Author.Rules.{rules}
 use mathlib.Core.Path.{◌∙◌, ap, sym}
 use Rattle.message.proofs.vectors.headers_in.Goals as goal
 

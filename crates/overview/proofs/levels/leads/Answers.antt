@@ -1,4 +1,3 @@
-use borrow.Author.Rules.{rules}
 use Rattle.overview.proofs.Rounds.{leads_on, leads_root, leads_not}
 use Rattle.overview.proofs.levels.leads.Goals as goal
 

@@ -1,12 +1,8 @@
 -- The invariant: the set has the slots from which a chain of at most n certificates reaches a root. Assumes nothing.
 use mathlib.Core.Path.{◌≡◌}
-use Prim.Native.Nat.{◌+◌, ◌-◌, ◌≤◌}
-use native.Mathlib.Numerals.{add-one}
-use native.Mathlib.Omega.{arith}
-use borrow.Author.Rules.{rules}
+use Prim.Native.Nat.{◌-◌, ◌≤◌}
 use Rattle.slot_lists.specs.Computed.{bits_from}
 use Rattle.overview.specs.Computed.{reaches}
-use Rattle.overview.proofs.Rounds.{no_level, next_level, still, last_level}
 use Rattle.overview.proofs.levels.standing_set.Given as goal
 
 abbrev pub invariant-loop-n : goal.invariant-loop-n

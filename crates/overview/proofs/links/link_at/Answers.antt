@@ -1,7 +1,5 @@
 use mathlib.Core.Path.{sym, ap, ◌∙◌}
 use native.Mathlib.Omega.{arith}
-use borrow.Author.Rules.{rules}
-use Rattle.geo.proofs.Bools.{of_not}
 use Rattle.validity.proofs.Laws.{valid_of, found_of_lem}
 use Rattle.chain.specs.Computed.{up_of}
 use Rattle.chain.proofs.Walked.{led, step_led}

@@ -1,9 +1,7 @@
 -- The invariant: the links of the slots below i are there. Assumes nothing.
-use mathlib.Core.Path.{◌≡◌}
-use Prim.Native.Nat.{ℕ, ◌-◌, ◌≤◌, ◌<◌}
+use Prim.Native.Nat.{◌<◌}
 use native.Mathlib.Omega.{arith}
-use lib.ListN.{length, get_or}
-use Rattle.overview.specs.Computed.{link_at}
+use lib.ListN.{length}
 use Rattle.overview.proofs.Rounds.{one_more}
 use borrow.Author.Rules.{rules}
 use Rattle.overview.proofs.links.links_at.Goals as goal

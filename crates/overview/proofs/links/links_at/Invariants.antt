@@ -1,11 +1,8 @@
 -- The invariant: the links of the slots below i are there. Assumes nothing.
 use mathlib.Core.Path.{◌≡◌}
 use Prim.Native.Nat.{ℕ, ◌-◌, ◌≤◌, ◌<◌}
-use native.Mathlib.Omega.{arith}
 use lib.ListN.{length, get_or}
 use Rattle.overview.specs.Computed.{link_at}
-use Rattle.overview.proofs.Rounds.{one_more}
-use borrow.Author.Rules.{rules}
 use Rattle.overview.proofs.links.links_at.Given as goal
 
 abbrev pub invariant-loop-i : goal.invariant-loop-i

@@ -1,7 +1,5 @@
 use mathlib.Core.Path.{sym, ◌∙◌}
 use native.Mathlib.Omega.{arith}
-use borrow.Author.Rules.{rules}
-use Rattle.geo.proofs.Bools.{of_not}
 use Rattle.overview.proofs.Tests.{look_short, look_size, look_bad, look_set}
 use Rattle.overview.proofs.operations.standing.Goals as goal
 

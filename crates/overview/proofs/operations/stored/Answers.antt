@@ -2,8 +2,6 @@ use mathlib.Core.Path.{sym, ap, ◌∙◌}
 use mathlib.Core.List.{List}
 use Prim.Native.Nat.{ℕ}
 use native.Mathlib.Omega.{arith}
-use borrow.Author.Rules.{rules}
-use Rattle.geo.proofs.Bools.{of_not}
 use Rattle.records.specs.declared.Record.{Record}
 use Rattle.overview.specs.declared.operations.SlotReading.{SlotReading}
 use Rattle.overview.proofs.Tests.{read_short, read_beyond, read_bad, read_empty, read_filled}

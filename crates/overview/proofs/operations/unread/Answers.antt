@@ -1,5 +1,4 @@
 use mathlib.Core.Path.{ap}
-use borrow.Author.Rules.{rules}
 use Rattle.records.specs.declared.Record.{Record}
 use Rattle.overview.specs.declared.operations.SlotReading.{SlotReading}
 use Rattle.overview.proofs.operations.unread.Goals as goal

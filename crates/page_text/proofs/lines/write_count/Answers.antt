@@ -5,7 +5,6 @@ use Rattle.text.specs.Text.{decimal_of}
 use Rattle.text.proofs.Texts.{written_more}
 use Rattle.text.proofs.Decimals.{decimal_ten}
 use Rattle.page_text.specs.Lines.{certificates_word, line_feed, count_of}
-use borrow.Author.Rules.{rules}
 use Rattle.page_text.proofs.lines.write_count.Goals as goal
 
 pub write_text-b-requires : goal.write_text-b-requires

@@ -6,7 +6,6 @@ use Rattle.text.proofs.Texts.{written_more}
 use Rattle.text.proofs.Hex.{hex_long}
 use Rattle.text.proofs.Decimals.{decimal_ten}
 use Rattle.page_text.specs.Lines.{withdraw_word, at_word, line_feed, head_of}
-use borrow.Author.Rules.{rules}
 use Rattle.page_text.proofs.lines.write_head.Goals as goal
 
 pub write_text-c-requires : goal.write_text-c-requires

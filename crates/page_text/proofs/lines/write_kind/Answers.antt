@@ -1,7 +1,6 @@
 -- `page_text::lines::write_kind` meets its contract: one line for each kind. Assumes nothing.
 use native.Mathlib.Omega.{arith}
 use Rattle.page_text.proofs.Printed.{kind_root, kind_authority, kind_ticket}
-use borrow.Author.Rules.{rules}
 use Rattle.page_text.proofs.lines.write_kind.Goals as goal
 
 pub returns-then-kind-eq-ROOT : goal.returns-then-kind-eq-ROOT

@@ -1,13 +1,10 @@
 -- `page_text::lines::write_lines` meets its contract. The invariant: the lines of the first slots are written. Assumes nothing.
-use Prim.Native.Nat.{◌+◌, ◌*◌, ◌≤◌, ◌-◌}
-use mathlib.Core.Path.{◌≡◌, refl}
+use mathlib.Core.Path.{refl}
 use native.Mathlib.Omega.{arith}
-use lib.ListN.{length, get_or, take}
+use lib.ListN.{get_or, take}
 use lib.Seq.{take_all}
-use Rattle.text.specs.Text.{Written}
 use Rattle.text.proofs.Texts.{written_none, written_more}
 use Rattle.page_text.specs.Lines.{lines_of}
-use Rattle.page_text.specs.Sizes.{line_length}
 use Rattle.page_text.proofs.Printed.{line_at, line_at_fits, lines_next}
 use Rattle.page_text.proofs.lines.write_lines.Goals as goal
 

@@ -5,7 +5,6 @@ use lib.ListN.{length}
 use Rattle.text.proofs.Texts.{written_more}
 use Rattle.page_text.specs.Lines.{lines_of, head_of, count_of}
 use Rattle.page_text.proofs.Printed.{head_fits, lines_fit, count_fits}
-use borrow.Author.Rules.{rules}
 use Rattle.page_text.proofs.lines.write_list.Goals as goal
 
 pub write_lines-b-requires : goal.write_lines-b-requires

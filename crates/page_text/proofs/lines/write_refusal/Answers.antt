@@ -5,7 +5,6 @@ use Rattle.text.specs.Text.{decimal_of}
 use Rattle.text.proofs.Texts.{written_more}
 use Rattle.text.proofs.Decimals.{decimal_ten}
 use Rattle.page_text.specs.Lines.{refused_word, line_feed, refused_of}
-use borrow.Author.Rules.{rules}
 use Rattle.page_text.proofs.lines.write_refusal.Goals as goal
 
 pub write_octet-requires : goal.write_octet-requires

@@ -5,7 +5,6 @@ use Rattle.records.specs.Layout.{ID}
 use Rattle.store.specs.Slots.{store_length}
 use Rattle.page_text.proofs.Printed.{refused_fits}
 use Rattle.page_text.proofs.Pages.{other_length, that_length, call_small, call_text}
-use borrow.Author.Rules.{rules}
 use Rattle.page_text.proofs.whole.page.Goals as goal
 
 pub returns-then-text-lt-PAGE_LENGTH : goal.returns-then-text-lt-PAGE_LENGTH

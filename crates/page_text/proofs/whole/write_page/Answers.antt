@@ -3,7 +3,6 @@ use mathlib.Core.Path.{sym}
 use native.Mathlib.Omega.{arith}
 use Rattle.page_text.proofs.Printed.{refused_fits}
 use Rattle.page_text.proofs.Pages.{named_long, named_below, named_fits, code_slots, printed_refusal, printed_list}
-use borrow.Author.Rules.{rules}
 use Rattle.page_text.proofs.whole.write_page.Goals as goal
 
 pub overflow_cast-result : goal.overflow_cast-result

@@ -6,7 +6,6 @@ use Rattle.store.specs.Search.{found_of, find}
 use Rattle.store.specs.Withdrawn.{withdrawn_in}
 use Rattle.store.proofs.Found.{find_finds, found_again}
 use Rattle.signing.proofs.Copied.{copy_none, copy_gone, copy_same, copy_other}
-use borrow.Author.Rules.{rules}
 use Rattle.signing.proofs.copies.copy_number.Goals as goal
 use Rattle.signing.proofs.copies.copy_number.Goals.{After-withdrawn, In-At, In-Nowhere}
 

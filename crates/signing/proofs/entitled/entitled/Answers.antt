@@ -9,7 +9,6 @@ use Rattle.chain.specs.declared.subjects.Place.TheVariants.{At}
 use Rattle.signing.specs.Times.{whole_second}
 use Rattle.signing.specs.Signers.{subject_of}
 use Rattle.signing.proofs.Entitling.{walked_number, entitled_kind, entitled_walk, entitled_aid, entitled_passes}
-use borrow.Author.Rules.{rules}
 use Rattle.signing.proofs.entitled.entitled.Goals as goal
 use Rattle.signing.proofs.entitled.entitled.Goals.{After-walk-refusal}
 

@@ -12,7 +12,6 @@ use Rattle.chain.proofs.Own.{none_also}
 use Rattle.signing.specs.Times.{whole_second}
 use Rattle.signing.specs.Places.{position_of}
 use Rattle.signing.proofs.Entitling.{slot_subject, walked_number, entitled_kind, entitled_walk, entitled_aid, entitled_passes}
-use borrow.Author.Rules.{rules}
 use Rattle.signing.proofs.entitled.entitled_at.Goals as goal
 use Rattle.signing.proofs.entitled.entitled_at.Goals.{After-walk_at-refusal}
 

@@ -1,6 +1,5 @@
 -- Field by field. Assumes nothing.
 use Rattle.signing.specs.Signers.{subject_of}
-use borrow.Author.Rules.{rules}
 use Rattle.signing.proofs.entitled.subject_of.Goals as goal
 
 pub returns : goal.returns

@@ -17,7 +17,6 @@ use Rattle.signing.specs.Computed.{copy_number, entitled_number, identity_of}
 use Rattle.signing.specs.declared.signers.Identity.{Identity}
 use Rattle.signing.specs.declared.signers.SignerJudged.{SignerJudged}
 use Rattle.signing.proofs.Signed.{carried_stops, carried_refused, carried_passes}
-use borrow.Author.Rules.{rules}
 use Rattle.signing.proofs.signers.carried_signer.Goals as goal
 use Rattle.signing.proofs.signers.carried_signer.Goals.{After-copy_number-copy, After-entitled-number, After-record_from-r}
 

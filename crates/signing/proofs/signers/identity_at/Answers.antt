@@ -1,10 +1,8 @@
 -- Field by field. Assumes nothing.
 use mathlib.Core.Path.{ap, ◌∙◌}
 use Rattle.records.specs.Records.{record_of}
-use Rattle.records.specs.declared.Key.{Key}
 use Rattle.store.proofs.Stored.{issuer_number_lem}
 use Rattle.signing.specs.Signers.{public_key}
-use borrow.Author.Rules.{rules}
 use Rattle.signing.proofs.signers.identity_at.Goals as goal
 
 pub returns : goal.returns

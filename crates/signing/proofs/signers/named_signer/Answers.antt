@@ -11,7 +11,6 @@ use Rattle.entries.specs.Stored.{part_of}
 use Rattle.signing.specs.declared.signers.Identity.{Identity}
 use Rattle.signing.specs.declared.signers.SignerJudged.{SignerJudged}
 use Rattle.signing.proofs.Signed.{named_unknown, named_stops, named_passes}
-use borrow.Author.Rules.{rules}
 use Rattle.signing.proofs.signers.named_signer.Goals as goal
 use Rattle.signing.proofs.signers.named_signer.Goals.{After-window, In-At, In-Nowhere}
 

@@ -1,6 +1,5 @@
 -- Both tests. Assumes nothing.
 use Rattle.signing.specs.Times.{in_time}
-use borrow.Author.Rules.{rules}
 use Rattle.signing.proofs.times.in_time.Goals as goal
 
 pub returns : goal.returns

@@ -1,5 +1,4 @@
 -- By cases. Assumes nothing.
-use borrow.Author.Rules.{rules}
 use Rattle.signing.proofs.times.unexpired.Goals as goal
 
 pub returns-then-expiration : goal.returns-then-expiration

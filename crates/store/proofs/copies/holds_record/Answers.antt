@@ -1,7 +1,6 @@
 -- The octets of the slot are compared with the record's image. Assumes nothing.
 use mathlib.Core.Path.{ap, ◌∙◌}
 use Rattle.store.specs.Copies.{same_octets}
-use borrow.Author.Rules.{rules}
 use Rattle.store.proofs.copies.holds_record.Goals as goal
 
 pub returns : goal.returns

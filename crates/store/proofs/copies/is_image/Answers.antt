@@ -1,11 +1,9 @@
 -- The invariant: what is left decides. Assumes nothing.
 use mathlib.Core.Path.{◌≡◌, refl, sym, ◌∙◌}
-use Prim.Native.Nat.{◌-◌, ◌≤◌}
-use lib.ListN.{length, drop}
+use lib.ListN.{length}
 use native.Mathlib.Omega.{arith}
 use Rattle.records.specs.Layout.{slot_length}
 use Rattle.store.specs.Slots.{slot_of}
-use Rattle.store.specs.Copies.{same_octets}
 use Rattle.store.proofs.Stored.{slot_long}
 use Rattle.store.proofs.Copied.{same_on, same_off, same_end, slot_octet}
 use borrow.Author.Rules.{rules}

@@ -1,14 +1,10 @@
 -- The invariant: what is left decides. Assumes nothing.
-use mathlib.Core.Path.{◌≡◌, refl, sym, ◌∙◌}
+use mathlib.Core.Path.{◌≡◌}
 use Prim.Native.Nat.{◌-◌, ◌≤◌}
-use lib.ListN.{length, drop}
-use native.Mathlib.Omega.{arith}
+use lib.ListN.{drop}
 use Rattle.records.specs.Layout.{slot_length}
 use Rattle.store.specs.Slots.{slot_of}
 use Rattle.store.specs.Copies.{same_octets}
-use Rattle.store.proofs.Stored.{slot_long}
-use Rattle.store.proofs.Copied.{same_on, same_off, same_end, slot_octet}
-use borrow.Author.Rules.{rules}
 use Rattle.store.proofs.copies.is_image.Given as goal
 
 abbrev pub invariant-loop-i : goal.invariant-loop-i

@@ -2,7 +2,6 @@
 use mathlib.Core.Path.{sym, ◌∙◌}
 use native.Mathlib.Omega.{arith}
 use Rattle.store.proofs.Places.{slot_field}
-use borrow.Author.Rules.{rules}
 use Rattle.store.proofs.fields.field_at.Goals as goal
 
 pub returns : goal.returns

@@ -4,7 +4,6 @@ use Prim.Native.Nat.{ℕ, ◌+◌, ◌-◌, ◌*◌}
 use lib.ListN.{take, drop}
 use native.Mathlib.Omega.{arith}
 use Rattle.records.specs.Layout.{ID, slot_length, values_of}
-use borrow.Author.Rules.{rules}
 use Rattle.store.proofs.fields.id_octets_at.Goals as goal
 
 pub returns : goal.returns

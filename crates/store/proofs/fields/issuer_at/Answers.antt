@@ -2,7 +2,6 @@
 use mathlib.Core.Path.{◌∙◌}
 use native.Mathlib.Omega.{arith}
 use Rattle.store.proofs.Places.{issuer_word}
-use borrow.Author.Rules.{rules}
 use Rattle.store.proofs.fields.issuer_at.Goals as goal
 
 pub returns : goal.returns

@@ -7,7 +7,6 @@ use Rattle.bitfields.specs.Field.{field}
 use Rattle.bitfields.proofs.Law.{field_lt}
 use Rattle.records.specs.Layout.{PARITY, slot_length}
 use Rattle.records.specs.Records.{record_of}
-use borrow.Author.Rules.{rules}
 use Rattle.store.proofs.fields.key_at.Goals as goal
 
 small : (x : ℕ) (l : List ℕ) → x ≡ field l PARITY.bit PARITY.width → x < 2

@@ -3,7 +3,6 @@ use native.Mathlib.Omega.{arith}
 use Rattle.records.proofs.Decoded.{value_lt}
 use Rattle.records.specs.Layout.{KIND}
 use Rattle.store.specs.Slots.{slot_of}
-use borrow.Author.Rules.{rules}
 use Rattle.store.proofs.fields.kind_at.Goals as goal
 
 pub overflow_cast-result : goal.overflow_cast-result

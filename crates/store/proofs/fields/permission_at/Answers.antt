@@ -2,7 +2,6 @@
 use mathlib.Core.Path.{◌∙◌}
 use native.Mathlib.Omega.{arith}
 use Rattle.store.proofs.Places.{permission_field}
-use borrow.Author.Rules.{rules}
 use Rattle.store.proofs.fields.permission_at.Goals as goal
 
 pub returns : goal.returns

@@ -1,10 +1,9 @@
 -- The loop looks upward: what is left to search holds the answer. Assumes nothing.
-use Prim.Native.Nat.{◌≤◌, ◌-◌}
-use mathlib.Core.Path.{◌≡◌, refl, sym, ap, ◌∙◌}
+use mathlib.Core.Path.{refl, sym, ap, ◌∙◌}
 use mathlib.Core.Bool.{not}
 use native.Mathlib.Omega.{arith}
 use Rattle.store.specs.Slots.{filled_at}
-use Rattle.store.specs.Search.{lowest_from, lowest_empty}
+use Rattle.store.specs.Search.{lowest_empty}
 use Rattle.store.proofs.Lowest.{lowest_here, lowest_more, lowest_end}
 use Rattle.store.proofs.search.empty_slot.Goals as goal
 

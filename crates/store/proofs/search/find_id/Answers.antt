@@ -1,9 +1,8 @@
 -- Eight slots a turn, or one by one: what is left to search holds the answer. Assumes nothing.
-use Prim.Native.Nat.{ℕ, ◌+◌, ◌≤◌, ◌-◌, ◌%◌}
+use Prim.Native.Nat.{ℕ, ◌+◌, ◌-◌}
 use mathlib.Core.Path.{◌≡◌, refl, sym, ap, ◌∙◌}
 use Rattle.store.proofs.search.find_id.Goals.{then-some_of_eight+else-loop-j-test, else-some_of_eight}
 use native.Mathlib.Omega.{arith}
-use borrow.Author.Rules.{rules}
 use Rattle.store.specs.Search.{has_id, lowest_from, find}
 use Rattle.store.proofs.Lowest.{lowest_here, lowest_more, lowest_end}
 use Rattle.store.proofs.Eight.{skip_eight}
@@ -41,10 +40,10 @@ loop-i-preserved c =
       omega arith,
       elim c.if-some_of_eight.branch [
         | then-some_of_eight+else-loop-j-test w ↦
-          let e : w.loop-j.j ≡ i + 8 = omega (arith, w.loop-j.invariant.1, w.loop-j.invariant.2, w.loop-j-test.false) in
-          sym (ap (λ (n : ℕ). lowest_from (has_id a.store.now a.id) n (64 - n)) e) ∙ w.loop-j.invariant.3
+            let e : w.loop-j.j ≡ i + 8 = omega (arith, w.loop-j.invariant.1, w.loop-j.invariant.2, w.loop-j-test.false) in
+            sym (ap (λ (n : ℕ). lowest_from (has_id a.store.now a.id) n (64 - n)) e) ∙ w.loop-j.invariant.3
         | else-some_of_eight w ↦
-          sym (skip_eight a.store.now a.id i (omega arith) (sym c.some_of_eight.ensures ∙ w.if-some_of_eight.false)) ∙ c.loop-i.invariant.2
+            sym (skip_eight a.store.now a.id i (omega arith) (sym c.some_of_eight.ensures ∙ w.if-some_of_eight.false)) ∙ c.loop-i.invariant.2
       ],
     )
 

@@ -1,12 +1,7 @@
 -- Eight slots a turn, or one by one: what is left to search holds the answer. Assumes nothing.
-use Prim.Native.Nat.{ℕ, ◌+◌, ◌≤◌, ◌-◌, ◌%◌}
-use mathlib.Core.Path.{◌≡◌, refl, sym, ap, ◌∙◌}
-use mathlib.Core.Logic.{⊎_elim}
-use native.Mathlib.Omega.{arith}
-use borrow.Author.Rules.{rules}
+use Prim.Native.Nat.{◌+◌, ◌≤◌, ◌-◌, ◌%◌}
+use mathlib.Core.Path.{◌≡◌}
 use Rattle.store.specs.Search.{has_id, lowest_from, find}
-use Rattle.store.proofs.Lowest.{lowest_here, lowest_more, lowest_end}
-use Rattle.store.proofs.Eight.{skip_eight}
 use Rattle.store.proofs.search.find_id.Given as goal
 
 abbrev pub invariant-loop-j : goal.invariant-loop-j

@@ -5,7 +5,6 @@ use mathlib.Core.Bool.{Bool, true, false, ◌&&◌}
 use lib.Dec.{eqb}
 use Rattle.store.specs.Slots.{filled_at}
 use borrow.Author.Tests.{eq-eqb, ne_eqb}
-use borrow.Author.Rules.{rules}
 use Rattle.store.proofs.search.has_id.Goals as goal
 
 fits : (x y : Bool) → y ≡ true → x ≡ x && y

@@ -1,5 +1,4 @@
 -- Eight ids. Assumes nothing.
-use borrow.Author.Rules.{rules}
 use Rattle.store.proofs.search.some_of_eight.Goals as goal
 
 pub returns : goal.returns

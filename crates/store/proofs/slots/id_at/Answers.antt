@@ -2,7 +2,6 @@
 use mathlib.Core.Path.{◌∙◌}
 use native.Mathlib.Omega.{arith}
 use Rattle.store.proofs.Places.{id_word}
-use borrow.Author.Rules.{rules}
 use Rattle.store.proofs.slots.id_at.Goals as goal
 
 pub returns : goal.returns

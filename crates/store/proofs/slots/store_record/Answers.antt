@@ -1,5 +1,4 @@
 -- The image is built, then written. Assumes nothing.
-use borrow.Author.Rules.{rules}
 use Rattle.store.proofs.slots.store_record.Goals as goal
 
 pub returns : goal.returns

@@ -1,5 +1,4 @@
 -- The state bits are a field of the store. Assumes nothing.
-use borrow.Author.Rules.{rules}
 use Rattle.store.proofs.withdrawals.mark_withdrawn.Goals as goal
 
 pub returns : goal.returns

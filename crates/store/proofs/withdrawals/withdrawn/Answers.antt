@@ -1,5 +1,4 @@
 -- The state of the slot that the id finds. Assumes nothing.
-use borrow.Author.Rules.{rules}
 use Rattle.store.specs.Withdrawn.{withdrawn_in}
 use Rattle.store.proofs.withdrawals.withdrawn.Goals as goal
 

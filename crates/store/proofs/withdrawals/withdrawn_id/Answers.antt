@@ -3,7 +3,6 @@ use mathlib.Core.Path.{sym, ap, ◌∙◌}
 use Rattle.store.specs.Search.{found_of}
 use Rattle.store.proofs.Found.{find_finds, found_again}
 use Rattle.store.specs.Withdrawn.{withdrawn_in}
-use borrow.Author.Rules.{rules}
 use Rattle.store.proofs.withdrawals.withdrawn_id.Goals as goal
 
 pub withdrawn-requires : goal.withdrawn-requires

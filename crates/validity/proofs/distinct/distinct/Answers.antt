@@ -1,19 +1,17 @@
 -- One slot a turn, and one mark. Assumes nothing.
-use Prim.Native.Nat.{ℕ, ◌-◌, ◌≤◌}
+use Prim.Native.Nat.{ℕ}
 use mathlib.Core.Path.{◌≡◌, sym, ap, ◌∙◌}
 use Rattle.validity.proofs.distinct.distinct.Goals.{then-seen-place-ne0+else-not-fresh_at, else-seen-place-ne0}
-use mathlib.Core.Bool.{true}
 use mathlib.Core.List.{List}
 use native.Mathlib.Omega.{arith}
 use borrow.Author.Rules.{rules}
-use borrow.Author.Tests.{not-true, not-false}
-use lib.ListN.{length, get_or}
+use borrow.Author.Tests.{not-true}
+use lib.ListN.{get_or}
 use Rattle.store.specs.Slots.{slot_count}
 use Rattle.validity.specs.Each.{each_below}
-use Rattle.validity.specs.Marks.{places}
 use Rattle.validity.specs.Valid.{fresh}
 use Rattle.validity.proofs.Each.{each_none, each_more, each_fails}
-use Rattle.validity.proofs.Marks.{Marked, unmarked, marked_more}
+use Rattle.validity.proofs.Marks.{unmarked, marked_more}
 use Rattle.validity.proofs.distinct.distinct.Goals as goal
 
 pub loop-i-init : goal.loop-i-init

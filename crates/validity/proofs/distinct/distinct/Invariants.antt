@@ -1,19 +1,13 @@
 -- One slot a turn, and one mark. Assumes nothing.
-use Prim.Native.Nat.{ℕ, ◌-◌, ◌≤◌}
-use mathlib.Core.Path.{◌≡◌, sym, ap, ◌∙◌}
-use mathlib.Core.Logic.{⊎_elim}
+use Prim.Native.Nat.{◌-◌, ◌≤◌}
+use mathlib.Core.Path.{◌≡◌}
 use mathlib.Core.Bool.{true}
-use mathlib.Core.List.{List}
-use native.Mathlib.Omega.{arith}
-use borrow.Author.Rules.{rules}
-use borrow.Author.Tests.{not-true, not-false}
-use lib.ListN.{length, get_or}
+use lib.ListN.{length}
 use Rattle.store.specs.Slots.{slot_count}
 use Rattle.validity.specs.Each.{each_below}
 use Rattle.validity.specs.Marks.{places}
 use Rattle.validity.specs.Valid.{fresh}
-use Rattle.validity.proofs.Each.{each_none, each_more, each_fails}
-use Rattle.validity.proofs.Marks.{Marked, unmarked, marked_more}
+use Rattle.validity.proofs.Marks.{Marked}
 use Rattle.validity.proofs.distinct.distinct.Given as goal
 
 abbrev pub invariant-loop-i : goal.invariant-loop-i

@@ -6,12 +6,6 @@ use mathlib.Core.List.{List}
 use Rattle.store.specs.Slots.{filled_at, id_at}
 use Rattle.validity.specs.Each.{each_below}
 use Rattle.validity.specs.Valid.{differs, fresh}
-use borrow.Author.Rules.{rules}
-use Rattle.validity.proofs.distinct.fresh_at.Reads as reads
-use Rattle.validity.proofs.distinct.fresh_at.Lts as lts
-use Rattle.store.proofs.slots.filled.Reads as filled-reads
-use Rattle.store.proofs.slots.id_at.Reads as id-at-reads
-use Rattle.validity.proofs.distinct.none_before.Reads as none-before-reads
 use Rattle.validity.proofs.distinct.fresh_at.Goals as goal
 use Rattle.validity.proofs.distinct.fresh_at.Goals.{After-none_before}
 

@@ -6,7 +6,6 @@ use native.Mathlib.Omega.{arith}
 use Rattle.octets.specs.Reading.{pick}
 use Rattle.store.specs.Slots.{id_at}
 use Rattle.validity.specs.Marks.{id_places, mark_place}
-use borrow.Author.Rules.{rules}
 use Rattle.validity.proofs.distinct.mark_place.Goals as goal
 
 pub returns-then-filled : goal.returns-then-filled

@@ -1,13 +1,9 @@
 -- One slot a turn. Assumes nothing.
-use Prim.Native.Nat.{ℕ, ◌-◌, ◌≤◌}
-use mathlib.Core.Path.{◌≡◌, sym, ap, ap₂, ◌∙◌}
-use mathlib.Core.Bool.{Bool, true, not, ◌&&◌}
-use native.Mathlib.Omega.{arith}
-use borrow.Author.Rules.{rules}
-use lib.Dec.{eqb}
+use Prim.Native.Nat.{◌-◌, ◌≤◌}
+use mathlib.Core.Path.{◌≡◌}
+use mathlib.Core.Bool.{true}
 use Rattle.validity.specs.Each.{each_below}
 use Rattle.validity.specs.Valid.{differs}
-use Rattle.validity.proofs.Each.{each_none, each_more, each_fails}
 use Rattle.validity.proofs.distinct.none_before.Given as goal
 
 abbrev pub invariant-loop-j : goal.invariant-loop-j

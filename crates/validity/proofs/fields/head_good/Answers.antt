@@ -3,7 +3,6 @@ use mathlib.Core.Path.{◌≡◌, ◌∙◌}
 use mathlib.Core.List.{List}
 use Prim.Native.Nat.{ℕ, ◌*◌, ◌/◌}
 use native.Mathlib.Omega.{arith}
-use borrow.Author.Rules.{rules}
 use Rattle.bitfields.specs.Field.{field}
 use Rattle.bitfields.proofs.Window.{word_whole}
 use Rattle.records.specs.Layout.{ISSUER}

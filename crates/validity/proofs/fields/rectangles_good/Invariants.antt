@@ -1,13 +1,9 @@
 -- One rectangle a turn. Assumes nothing.
-use Prim.Native.Nat.{ℕ, ◌-◌, ◌≤◌}
-use mathlib.Core.Path.{◌≡◌, sym, ap, ◌∙◌}
+use Prim.Native.Nat.{◌-◌, ◌≤◌}
+use mathlib.Core.Path.{◌≡◌}
 use mathlib.Core.Bool.{true}
-use native.Mathlib.Omega.{arith}
-use borrow.Author.Rules.{rules}
-use borrow.Author.Tests.{not-true, not-false}
 use Rattle.validity.specs.Each.{each_below}
 use Rattle.validity.specs.Good.{rectangle_good}
-use Rattle.validity.proofs.Each.{each_none, each_more, each_fails}
 use Rattle.validity.proofs.fields.rectangles_good.Given as goal
 
 abbrev pub invariant-loop-i : goal.invariant-loop-i

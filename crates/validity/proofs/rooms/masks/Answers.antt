@@ -1,6 +1,5 @@
 -- Row by row. Assumes nothing.
 use Rattle.validity.specs.Masks.{mask_rows}
-use borrow.Author.Rules.{rules}
 use Rattle.validity.proofs.rooms.masks.Goals as goal
 
 pub returns : goal.returns

@@ -1,13 +1,9 @@
 -- One mask a turn, then the first. Assumes nothing.
-use Prim.Native.Nat.{ℕ, ◌+◌, ◌-◌, ◌≤◌}
-use mathlib.Core.Path.{◌≡◌, refl, sym, ap, ◌∙◌}
-use mathlib.Core.List.{List}
-use native.Mathlib.Omega.{arith}
-use native.Mathlib.Numerals.{add-one}
-use borrow.Author.Rules.{rules}
-use lib.ListN.{length, set, replicate, length-set, get_or-replicate}
-use lib.Seq.{paste, paste-zero, paste-suc}
-use Rattle.validity.specs.Masks.{widest, with_row}
+use Prim.Native.Nat.{◌-◌, ◌≤◌}
+use mathlib.Core.Path.{◌≡◌}
+use lib.ListN.{length, replicate}
+use lib.Seq.{paste}
+use Rattle.validity.specs.Masks.{widest}
 use Rattle.validity.proofs.rooms.put_row.Given as goal
 
 abbrev pub invariant-loop-i : goal.invariant-loop-i

@@ -1,18 +1,8 @@
 -- Eight octets a turn. Assumes nothing.
-use Prim.Native.Nat.{ℕ, ◌+◌, ◌-◌, ◌*◌, ◌/◌, ◌%◌, ◌≤◌}
-use mathlib.Core.Path.{◌≡◌, sym, ap, ap₂, ◌∙◌}
-use mathlib.Core.Bool.{Bool, ◌&&◌}
-use mathlib.Core.List.{List}
-use native.Mathlib.Omega.{arith}
-use borrow.Author.Rules.{rules}
-use lib.Bits.{bit_and}
-use lib.Dec.{eqb}
-use lib.ListN.{length}
-use Rattle.bitfields.specs.Words.{word_at}
+use Prim.Native.Nat.{◌+◌, ◌-◌, ◌*◌, ◌%◌, ◌≤◌}
+use mathlib.Core.Path.{◌≡◌}
 use Rattle.bitfields.specs.Zero.{zero_bits}
-use Rattle.bitfields.proofs.Zero.{zero_none}
-use Rattle.validity.specs.Masks.{widest, row_length, mask_rows, skip_of}
-use Rattle.validity.proofs.Unused.{masks_long, first_is, skip_is, skip_below, room_more}
+use Rattle.validity.specs.Masks.{skip_of}
 use Rattle.validity.proofs.rooms.room_zero.Given as goal
 
 abbrev pub invariant-loop-i : goal.invariant-loop-i

@@ -5,7 +5,6 @@ use mathlib.Core.Bool.{Bool, ◌&&◌}
 use native.Mathlib.Omega.{arith}
 use lib.Dec.{eqb}
 use Rattle.validity.proofs.Parts.{empty_tests}
-use borrow.Author.Rules.{rules}
 use Rattle.validity.proofs.slots.all_empty.Goals as goal
 
 pub returns : goal.returns

@@ -11,7 +11,6 @@ use Rattle.bitfields.specs.Zero.{zero_bits}
 use Rattle.records.specs.Layout.{NAME, bit_at}
 use Rattle.validity.specs.Good.{unused_zero}
 use Rattle.validity.proofs.Parts.{end_octet, room_tests}
-use borrow.Author.Rules.{rules}
 use Rattle.validity.proofs.slots.name_good.Goals as goal
 
 pub returns-then-n-le-NAME_ROOM : goal.returns-then-n-le-NAME_ROOM

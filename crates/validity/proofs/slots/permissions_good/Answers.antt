@@ -7,7 +7,6 @@ use borrow.Author.Tests.{lt-leb}
 use Rattle.bitfields.specs.Zero.{zero_bits}
 use Rattle.records.specs.Layout.{PERMISSIONS, slot_bits}
 use Rattle.validity.proofs.Parts.{permissions_first, permissions_tests, permissions_many}
-use borrow.Author.Rules.{rules}
 use Rattle.validity.proofs.slots.permissions_good.Goals as goal
 
 pub room_zero-requires : goal.room_zero-requires

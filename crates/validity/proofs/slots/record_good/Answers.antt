@@ -9,7 +9,6 @@ use lib.Dec.{leb}
 use Rattle.records.specs.Layout.{NAME, RECTANGLES}
 use Rattle.validity.specs.Good.{unused_zero, good_name}
 use Rattle.validity.proofs.Parts.{region_tests, record_tests, region_fails}
-use borrow.Author.Rules.{rules}
 use Rattle.validity.proofs.slots.record_good.Goals as goal
 use Rattle.validity.proofs.slots.record_good.Goals.{After-name_good}
 

@@ -9,7 +9,6 @@ use lib.ListN.{get_or}
 use Rattle.bitfields.specs.Zero.{zero_bits}
 use Rattle.records.specs.Layout.{RECTANGLES, bit_at}
 use Rattle.validity.proofs.Parts.{end_octet, room_tests}
-use borrow.Author.Rules.{rules}
 use Rattle.validity.proofs.slots.region_room.Goals as goal
 
 pub returns : goal.returns

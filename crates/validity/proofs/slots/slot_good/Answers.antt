@@ -5,7 +5,6 @@ use borrow.Author.Tests.{eq-eqb, ne_eqb}
 use Rattle.store.specs.Slots.{EMPTY}
 use Rattle.validity.specs.Good.{NO_STATE}
 use Rattle.validity.proofs.Parts.{slot_tests}
-use borrow.Author.Rules.{rules}
 use Rattle.validity.proofs.slots.slot_good.Goals as goal
 
 pub returns-then-state-eq-EMPTY_STATE : goal.returns-then-state-eq-EMPTY_STATE

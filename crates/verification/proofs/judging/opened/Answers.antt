@@ -7,7 +7,6 @@ use lib.Dec.{eqb, leb}
 use mir.Facts.{to_z-of_z}
 use mir.Syntax.{w32}
 use mir.Val.{SFits}
-use Rattle.geo.proofs.Bools.{of_not}
 use Rattle.order.specs.Steps.{gives}
 use Rattle.octets.specs.Reading.{got}
 use Rattle.octets.proofs.Laws.{was}

@@ -5,7 +5,6 @@ use Rattle.store.specs.Search.{found_of}
 use Rattle.store.proofs.Found.{find_finds}
 use Rattle.signing.specs.Signers.{public_key}
 use Rattle.verification.specs.Computed.{parts_question}
-use borrow.Author.Rules.{rules}
 use Rattle.verification.proofs.operations.certificate_question.Goals as goal
 
 pub returns-then-signer-ne-CARRIED : goal.returns-then-signer-ne-CARRIED

@@ -6,7 +6,6 @@ use lib.Dec.{eqb}
 use borrow.Author.Tests.{eq-eqb, ne_eqb}
 use Rattle.geo.proofs.Bools.{never}
 use Rattle.verification.specs.Computed.{decided_from}
-use borrow.Author.Rules.{rules}
 use Rattle.verification.proofs.operations.decision_for.Goals as goal
 
 -- the test of the certificate's verdict

@@ -1,6 +1,5 @@
 -- All values are zero. Assumes nothing.
 use Rattle.verification.specs.Order.{unasked}
-use borrow.Author.Rules.{rules}
 use Rattle.verification.proofs.operations.no_question.Goals as goal
 
 pub returns : goal.returns

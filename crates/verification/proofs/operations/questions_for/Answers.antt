@@ -1,7 +1,6 @@
 -- By what the signer's tests answered. Assumes nothing.
 use borrow.Author.Tests.{eq-eqb, ne_eqb}
 use Rattle.verification.specs.Computed.{prepared_from}
-use borrow.Author.Rules.{rules}
 use Rattle.verification.proofs.operations.questions_for.Goals as goal
 
 pub returns-then-number-ne-ACCEPTED : goal.returns-then-number-ne-ACCEPTED

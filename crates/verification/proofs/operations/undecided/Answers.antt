@@ -1,5 +1,4 @@
 -- All values are zero. Assumes nothing.
-use borrow.Author.Rules.{rules}
 use Rattle.verification.proofs.operations.undecided.Goals as goal
 
 pub returns : goal.returns

@@ -1,5 +1,4 @@
 -- No question. Assumes nothing.
-use borrow.Author.Rules.{rules}
 use Rattle.verification.proofs.operations.unprepared.Goals as goal
 
 pub returns : goal.returns

@@ -6,7 +6,6 @@ use borrow.Author.Tests.{le-leb, lt-leb}
 use native.Mathlib.Nat.{add-sub_cancel_left}
 use native.Mathlib.Omega.{arith}
 use Rattle.verification.specs.Payloads.{payload_of}
-use borrow.Author.Rules.{rules}
 use Rattle.verification.proofs.payloads.payload.Goals as goal
 
 pub returns-then-length-message : goal.returns-then-length-message

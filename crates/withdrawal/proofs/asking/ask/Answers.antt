@@ -1,10 +1,8 @@
 -- The tests in their order. Assumes nothing.
-use Rattle.geo.proofs.Bools.{of_not}
 use mathlib.Core.Path.{sym, ap, ◌∙◌}
 use Rattle.store.specs.Search.{found_of, find}
 use Rattle.store.proofs.Found.{find_finds, found_again}
 use Rattle.withdrawal.proofs.Asked.{id_number, asked_short, asked_id, asked_bad, asked_unknown, asked_at}
-use borrow.Author.Rules.{rules}
 use Rattle.withdrawal.proofs.asking.ask.Goals as goal
 
 pub returns-then-store-ne-STORE_LENGTH : goal.returns-then-store-ne-STORE_LENGTH

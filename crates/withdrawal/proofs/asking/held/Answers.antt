@@ -1,6 +1,5 @@
 use mathlib.Core.Path.{sym, ◌∙◌}
 use Rattle.withdrawal.proofs.Asked.{held_gone, held_still}
-use borrow.Author.Rules.{rules}
 use Rattle.withdrawal.proofs.asking.held.Goals as goal
 
 pub returns-then-withdrawn : goal.returns-then-withdrawn

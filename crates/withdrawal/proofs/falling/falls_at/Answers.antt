@@ -1,4 +1,3 @@
-use Rattle.geo.proofs.Bools.{of_not}
 use mathlib.Core.Path.{sym, ◌∙◌}
 use Rattle.validity.proofs.Laws.{valid_of, found_of_lem}
 use Rattle.withdrawal.proofs.Fallen.{falls_empty, falls_not, falls_never, falls_here}

@@ -1,9 +1,7 @@
 -- The invariant: the set has the slots from i on. Assumes nothing.
-use mathlib.Core.Path.{◌≡◌, refl, ap, ◌∙◌}
-use Prim.Native.Nat.{ℕ, ◌+◌, ◌*◌, ◌^◌, ◌-◌, ◌≤◌, ◌<◌}
-use native.Mathlib.Omega.{arith}
+use mathlib.Core.Path.{◌≡◌}
+use Prim.Native.Nat.{◌-◌, ◌≤◌}
 use Rattle.slot_lists.specs.Computed.{bits_from}
-use Rattle.slot_lists.proofs.SlotSets.{bits_top, bits_down, bits_zero, bit_small}
 use Rattle.withdrawal.specs.Computed.{falls_with}
 use Rattle.withdrawal.proofs.falling.slot_set.Given as goal
 

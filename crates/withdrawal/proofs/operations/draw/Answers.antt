@@ -1,6 +1,5 @@
 use native.Mathlib.Omega.{arith}
 use Rattle.withdrawal.proofs.Fallen.{fallen_set}
-use borrow.Author.Rules.{rules}
 use Rattle.withdrawal.proofs.operations.draw.Goals as goal
 
 pub returns : goal.returns

@@ -3,7 +3,6 @@ use native.Mathlib.Omega.{arith}
 use Rattle.store.proofs.Found.{find_finds}
 use Rattle.withdrawal.specs.Computed.{asked_of}
 use Rattle.withdrawal.proofs.Asked.{asked_held, page_short, page_asked, page_refused}
-use borrow.Author.Rules.{rules}
 use Rattle.withdrawal.proofs.operations.list.Goals as goal
 
 pub returns-then-lent-lt-SLOTS : goal.returns-then-lent-lt-SLOTS

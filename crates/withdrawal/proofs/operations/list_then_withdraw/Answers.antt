@@ -1,6 +1,5 @@
 -- From the contracts of `list` and `withdraw` alone. Assumes nothing.
 use Rattle.withdrawal.proofs.Demand.{kept3}
-use borrow.Author.Rules.{rules}
 use Rattle.withdrawal.proofs.operations.list_then_withdraw.Goals as goal
 
 pub returns : goal.returns

@@ -3,7 +3,6 @@ use mathlib.Core.List.{List}
 use Prim.Native.Nat.{ℕ}
 use Rattle.withdrawal.specs.Computed.{asked_of}
 use Rattle.withdrawal.proofs.Asked.{asked_held, held_below, withdrawal_asked}
-use borrow.Author.Rules.{rules}
 use Rattle.withdrawal.proofs.operations.withdraw.Goals as goal
 
 abbrev pair : ℕ → List ℕ → ℕ × List ℕ
