@@ -18,7 +18,7 @@ certificate: ## print the fields and the id of the example ticket
 	./read-certificate
 
 archive: ## prove the library and write crates/nattveldi_c/out/libnattveldi_c.a
-	cd crates/nattveldi_c && rt lib
+	cd crates/nattveldi_c && rt lib --cpu x86-64
 
 check: ## prove what changed since the last proof (rt all check); no edits, no Rust tests
 	rt all check

@@ -1,6 +1,6 @@
 /* Installs a root in an empty store, admits certificates below it, and prints
- * each answer and then the filled slots. To build it in the repository's root,
- * after `rt lib` in its folder crates/nattveldi_c:
+ * each answer and then the filled slots. To build it, after `make archive` in the
+ * repository's root:
  *
  *   cc -std=c99 -Iinclude examples/admit.c crates/nattveldi_c/out/libnattveldi_c.a -o admit
  *

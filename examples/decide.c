@@ -2,8 +2,7 @@
  * an authority below it, works out for each message what the chip is to be
  * asked, asks it, decides, and prints the payload. A certificate that an
  * accepted message carries is admitted to the store, so that later messages can
- * name it by id. To build it in the repository's root, after `rt lib` in its
- * folder crates/nattveldi_c:
+ * name it by id. To build it, after `make archive` in the repository's root:
  *
  *   cc -std=c99 -Iinclude examples/decide.c crates/nattveldi_c/out/libnattveldi_c.a -o decide
  *

@@ -1,6 +1,5 @@
 /* Reads a certificate from standard input and prints some of its fields and its
- * id. To build it in the repository's root, after `rt lib` in its folder
- * crates/nattveldi_c:
+ * id. To build it, after `make archive` in the repository's root:
  *
  *   cc -std=c99 -Iinclude examples/read.c crates/nattveldi_c/out/libnattveldi_c.a -o read
  *

@@ -130,10 +130,16 @@ fn archives() {
     place.tool("rt", "echo rt: \"${PWD#\"${0%/tools/rt}\"/}\" \"$@\"");
     // An empty variable names no folder.
     let (_, _, err) = place.run(&[], &[("NATTVELDI_LIB_DIR", "")]);
-    assert!(err.ends_with("\nrt: crates/nattveldi_c lib\n"), "{err}");
+    assert!(
+        err.ends_with("\nrt: crates/nattveldi_c lib --cpu x86-64\n"),
+        "{err}"
+    );
     let (status, out, err) = place.run(&["-", "--input-hex"], &[]);
     assert_eq!((status, &out[..]), (0, "certificate - --input-hex\n"));
-    assert!(err.ends_with("\nrt: crates/nattveldi_c lib\n"), "{err}");
+    assert!(
+        err.ends_with("\nrt: crates/nattveldi_c lib --cpu x86-64\n"),
+        "{err}"
+    );
     let asked = format!("nattveldi = {}", nattveldi::VERSION);
     place.tool("pkg-config", &format!("[ \"$2\" = '{asked}' ]"));
     assert_eq!(place.run(&[], &[]), (0, default.to_string(), String::new()));

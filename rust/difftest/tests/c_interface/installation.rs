@@ -242,7 +242,7 @@ fn writes_nothing_if_something_is_missing() {
     let words = ["--prefix", &prefix.to_string_lossy()];
     let shown = repository.display();
     let advice = [
-        format!("Run `rt lib` in {shown}/crates/nattveldi_c first: it proves the library and writes the archive.\n"),
+        format!("Run `make archive` in {shown} first: it proves the library and writes the archive.\n"),
         format!("Run `cargo build --release --offline --package nattveldi-inspect` in {shown}/rust first,\nor leave the programs out with --without-programs.\n"),
         format!("Run `./page-example` in {shown} first,\nor leave the programs out with --without-programs.\n"),
         String::new(),

@@ -17,8 +17,7 @@ fn commands(name: &str) -> String {
     lines.collect::<Vec<&str>>().join("\n")
 }
 
-/// A folder that looks like the repository's root after `rt lib` in
-/// `crates/nattveldi_c`.
+/// A folder that looks like the repository's root after `make archive`.
 fn place(name: &str) -> PathBuf {
     let place = target(&format!("instructions-{name}"));
     let _ = fs::remove_dir_all(&place); // what an earlier run left
