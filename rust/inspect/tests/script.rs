@@ -129,9 +129,12 @@ fn archives() {
     // An empty variable names no folder.
     let (_, _, err) = place.run(&[], &[("NATTVELDI_LIB_DIR", "")]);
     assert!(err.ends_with("\nrt: staticlib nattveldi_c\n"), "{err}");
-    let (status, out, err) = place.run(&["-", "--input-hex"], &[]);
-    assert_eq!((status, &out[..]), (0, "certificate - --input-hex\n"));
-    assert!(err.ends_with("\nrt: staticlib nattveldi_c\n"), "{err}");
+    for option in ["--input-hex", "--hex"] {
+        let (status, out, err) = place.run(&["-", option], &[]);
+        let said = format!("certificate - {option}\n");
+        assert_eq!((status, out), (0, said));
+        assert!(err.ends_with("\nrt: staticlib nattveldi_c\n"), "{err}");
+    }
     let asked = format!("nattveldi = {}", nattveldi::VERSION);
     place.tool("pkg-config", &format!("[ \"$2\" = '{asked}' ]"));
     assert_eq!(place.run(&[], &[]), (0, default.to_string(), String::new()));
