@@ -127,6 +127,21 @@ fn words(name: &str) -> String {
     words.collect::<Vec<&str>>().join(" ")
 }
 
+#[test]
+fn of_an_unsupported_input() {
+    let meaning = Refusal::Unsupported.meaning();
+    for (name, number) in [
+        (
+            "include/nattveldi.h",
+            "case NATTVELDI_UNSUPPORTED: return \"",
+        ),
+        ("docs/ANSWERS.md", "| 6 | unsupported | "),
+    ] {
+        let line = format!("{number}{meaning}");
+        assert!(words(name).contains(&line), "{name} lacks {line}");
+    }
+}
+
 /// Two numbers can come from a slot, and each says so wherever it is explained:
 /// the meanings are one text, and what is a bad call is said at more length too.
 #[test]
