@@ -93,6 +93,8 @@ mod tests {
     #[test]
     fn sentences() {
         assert_eq!(sentence(0), "accepted");
+        let cut = "refused 4, cut: a field or vector passes the end of what holds it";
+        assert_eq!(sentence(4), cut);
         for refusal in Refusal::ALL {
             let (number, name, meaning) = (refusal.number(), refusal.name(), refusal.meaning());
             let words = format!("refused {number}, {name}: {meaning}");

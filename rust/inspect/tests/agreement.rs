@@ -149,10 +149,17 @@ fn parts_are_the_librarys() {
         let issuer = fields.issuer.map(|part| part.start);
         assert_eq!(starts("signer_info.digest"), issuer);
         let permissions = own.iter().filter(|field| field.name == "its_aid");
-        let own_aids: Vec<&Value> = permissions.map(|field| &field.value.value).collect();
+        let own_aids: Vec<&Value> = permissions.clone().map(|f| &f.value.value).collect();
         let aids = fields.permissions().iter();
-        let aids: Vec<Value> = aids.map(|p| p.its_aid.into()).collect();
-        assert_eq!(own_aids, aids.iter().collect::<Vec<_>>());
+        let values: Vec<Value> = aids.clone().map(|p| p.its_aid.into()).collect();
+        assert_eq!(own_aids, values.iter().collect::<Vec<_>>());
+        // In words the number stands first, before a name.
+        let own_aids = permissions.map(|field| field.value.words.split(' ').next());
+        let aids: Vec<String> = aids.map(|p| p.its_aid.to_string()).collect();
+        assert!(
+            own_aids.eq(aids.iter().map(|aid| Some(&aid[..]))),
+            "{aids:?}"
+        );
     }
 }
 

@@ -134,12 +134,15 @@ fn archives() {
         err.ends_with("\nrt: crates/nattveldi_c lib --cpu x86-64\n"),
         "{err}"
     );
-    let (status, out, err) = place.run(&["-", "--input-hex"], &[]);
-    assert_eq!((status, &out[..]), (0, "certificate - --input-hex\n"));
-    assert!(
-        err.ends_with("\nrt: crates/nattveldi_c lib --cpu x86-64\n"),
-        "{err}"
-    );
+    for option in ["--input-hex", "--hex"] {
+        let (status, out, err) = place.run(&["-", option], &[]);
+        let said = format!("certificate - {option}\n");
+        assert_eq!((status, out), (0, said));
+        assert!(
+            err.ends_with("\nrt: crates/nattveldi_c lib --cpu x86-64\n"),
+            "{err}"
+        );
+    }
     let asked = format!("nattveldi = {}", nattveldi::VERSION);
     place.tool("pkg-config", &format!("[ \"$2\" = '{asked}' ]"));
     assert_eq!(place.run(&[], &[]), (0, default.to_string(), String::new()));

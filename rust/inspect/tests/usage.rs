@@ -124,7 +124,7 @@ fn stores_that_are_written() {
 }
 
 /// A command line, and how what is said of it begins.
-const BAD_USAGE: [(&[&str], &str); 34] = [
+const BAD_USAGE: [(&[&str], &str); 36] = [
     (&[], "no command is given\nusage: nattveldi-inspect COMMAND"),
     (&["--input-raw"], "no command is given\nusage: "),
     (&["certificat"], "no command certificat"),
@@ -160,6 +160,7 @@ const BAD_USAGE: [(&[&str], &str); 34] = [
         &["example", "store", "--hex", "--raw"],
         "either --raw or --hex, not both",
     ),
+    (&["store", "--hex", "--hex"], "--hex is given twice"),
     (
         &["store", "--input-hex", "--input-hex"],
         "--input-hex is given twice",
@@ -205,6 +206,7 @@ const BAD_USAGE: [(&[&str], &str); 34] = [
         "--output wants a value, and --raw is an option",
     ),
     (&["install", "a", "b", "--hex"], "--hex wants --output"),
+    (&["install", "a", "b", "--raw"], "--raw wants --output"),
     (&["admit", "a", "b", "--raw"], "--raw wants --output"),
     (
         &["withdraw", "a", "0102030405060708", "--raw"],
@@ -262,4 +264,12 @@ fn bad_inputs() {
         let expected = format!("nattveldi-inspect: {said}");
         assert!(answer.err.starts_with(&expected), "{}", answer.err);
     }
+}
+
+/// An output that cannot be written is no success.
+#[test]
+fn an_output_that_cannot_be_written() {
+    let answer = run(&["example", "store", "--output", "/no/such/file"], b"");
+    assert_eq!((answer.status, &answer.out[..]), (2, ""));
+    assert!(answer.err.contains("/no/such/file: "), "{}", answer.err);
 }

@@ -119,3 +119,44 @@ fn the_header_says_it() {
         }
     }
 }
+
+/// A file of the repository on one line, without the marks of a comment.
+fn words(name: &str) -> String {
+    let text = text(name);
+    let words = text.split_whitespace().filter(|word| *word != "*");
+    words.collect::<Vec<&str>>().join(" ")
+}
+
+#[test]
+fn of_an_unsupported_input() {
+    let meaning = Refusal::Unsupported.meaning();
+    for (name, number) in [
+        (
+            "include/nattveldi.h",
+            "case NATTVELDI_UNSUPPORTED: return \"",
+        ),
+        ("docs/ANSWERS.md", "| 6 | unsupported | "),
+    ] {
+        let line = format!("{number}{meaning}");
+        assert!(words(name).contains(&line), "{name} lacks {line}");
+    }
+}
+
+/// Two numbers can come from a slot, and each says so wherever it is explained:
+/// the meanings are one text, and what is a bad call is said at more length too.
+#[test]
+fn of_a_slot() {
+    let [call, unknown] = [Refusal::BadCall, Refusal::Unknown].map(Refusal::meaning);
+    assert!(call.contains("slot"), "{call}");
+    for (name, said) in [
+        ("include/nattveldi.h", "slot is above 63"),
+        ("docs/ANSWERS.md", "a slot above 63"),
+    ] {
+        assert!(words(name).contains(said), "{name} lacks {said}");
+    }
+    let behind = unknown.split_once("or the slot").map(|(_, behind)| behind);
+    assert!(
+        behind.is_some_and(|words| words.contains("is empty")),
+        "{unknown}"
+    );
+}

@@ -1,11 +1,14 @@
-//! The constants of the C header against the bindings and the papers.
+//! The constants of the C header against the bindings and the papers, and the
+//! header as C++.
 
 use std::fs;
 
+use difftest::seed::tell;
 use nattveldi::raw::{self, octet_at, word_at};
+use nattveldi::Refusal;
 use reference::constants::{GOOD_VERDICT, SLOT_LENGTH};
 
-use crate::programs::{compiler, include_flag, target};
+use crate::programs::{compiler, include_flag, root, target, WARNINGS};
 
 /// Fails unless the header has these constants with these values, as constant
 /// expressions: no array has -1 elements.
@@ -23,6 +26,24 @@ fn check_constants(test: &str, constants: &[(&str, usize)]) {
         .expect("a C compiler");
     let error = String::from_utf8_lossy(&output.stderr);
     assert!(output.status.success(), "{error}");
+}
+
+/// The bindings' refusals under their names and numbers. 15 has a longer name,
+/// "signature" is a field; 9 a shorter one.
+#[test]
+fn has_the_numbers() {
+    let refusals = Refusal::ALL.map(|refusal| {
+        let name = match refusal {
+            Refusal::Signature => "bad signature",
+            Refusal::OtherCertificate => "other certificate",
+            _ => refusal.name(),
+        };
+        let name = name.to_uppercase().replace(' ', "_");
+        (name, usize::from(refusal.number()))
+    });
+    let mut constants = vec![("ACCEPTED", usize::from(raw::ACCEPTED))];
+    constants.extend(refusals.iter().map(|(name, number)| (&name[..], *number)));
+    check_constants("numbers", &constants);
 }
 
 /// The last three are document 01's: "The certificate, at most 1,024 octets",
@@ -144,4 +165,25 @@ fn has_the_words() {
             ("SIGNATURE_TYPE", word_at::SIGNATURE_TYPE),
         ],
     );
+}
+
+#[test]
+fn compiles_as_cpp() {
+    let source = target("header.cpp");
+    fs::write(&source, "#include \"nattveldi.h\"\n").expect("a source file");
+    let mut compiler = compiler("CXX", "c++");
+    compiler
+        .args(WARNINGS)
+        .args(["-std=c++11", "-fsyntax-only", "-I"])
+        .arg(root().join("include"));
+    match compiler.arg(&source).output() {
+        Ok(output) => assert!(
+            output.status.success(),
+            "{}",
+            String::from_utf8_lossy(&output.stderr)
+        ),
+        Err(error) => tell(&format!(
+            "no C++ compiler ({error}): the header was not tried as C++"
+        )),
+    }
 }

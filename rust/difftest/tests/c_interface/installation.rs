@@ -58,6 +58,15 @@ fn install_with(variable: (&str, &str), repository: &Path, words: &[&str]) -> Ou
     command.envs([variable]).output().expect("./install runs")
 }
 
+/// The script of this repository as it is, with a folder for the archive.
+fn install_from(archives: &Path, words: &[&str]) -> Output {
+    Command::new(root().join("install"))
+        .args(words)
+        .env("NATTVELDI_LIB_DIR", archives)
+        .output()
+        .expect("./install runs")
+}
+
 fn command(repository: &Path, words: &[&str]) -> Command {
     let mut command = Command::new("bash");
     command.arg(repository.join("install")).args(words);
@@ -96,6 +105,32 @@ fn programs_are_built_from_it() {
     let flags = pkg_config::flags(&file);
     reads_the_ticket(&compile("read", "installed", &flags));
     judges_the_example(&compile("decide", "installed", &flags), "installed");
+}
+
+/// The archive is in the folder that the variable names; but for it, what is
+/// installed for C programs needs nothing that is built.
+#[test]
+fn programs_are_built_from_an_archive_elsewhere() {
+    let prefix = place("elsewhere");
+    let word = format!("--prefix={}", prefix.display());
+    let archive = archive();
+    let folder = archive.parent().expect("a folder");
+    succeeded(install_from(folder, &[&word, "--without-programs"]));
+    let file = prefix.join("lib/pkgconfig/nattveldi.pc");
+    let header = root().join("include/nattveldi.h");
+    for (copy, original) in [
+        ("lib/libnattveldi_c.a", &archive),
+        ("include/nattveldi.h", &header),
+    ] {
+        assert!(octets(&prefix.join(copy)) == octets(original), "{copy}");
+    }
+    let version = format!("\nVersion: {}\n", nattveldi::VERSION);
+    let text = String::from_utf8(octets(&file)).expect("text");
+    assert!(text.contains(&version), "{text}");
+
+    let flags = pkg_config::flags(&file);
+    reads_the_ticket(&compile("read", "elsewhere", &flags));
+    judges_the_example(&compile("decide", "elsewhere", &flags), "elsewhere");
 }
 
 /// Under each of its names; a program that links it needs its soname.
@@ -322,8 +357,41 @@ fn leaves_the_old_if_it_fails() {
     check_failed(install(&repository, &words), &said);
 }
 
+/// Without an archive it says which one it looked for, and what helps.
+fn check_missing(output: Output, archive: &Path, advice: &str) {
+    assert_eq!(
+        (output.status.code(), &output.stdout[..]),
+        (Some(1), &b""[..])
+    );
+    let error = String::from_utf8(output.stderr).expect("text");
+    let archive = archive.display();
+    let start = format!("install: there is no archive {archive}\n{advice}");
+    assert!(error.starts_with(&start), "{error}");
+}
+
+#[test]
+fn writes_nothing_without_an_archive() {
+    let place = place("without");
+    let prefix = place.join("prefix");
+    let words = ["--prefix", &prefix.to_string_lossy()];
+    let output = install_from(&place, &words);
+    let advice = "NATTVELDI_LIB_DIR names that folder: unset it, or copy the archive there.\n";
+    check_missing(output, &place.join("libnattveldi_c.a"), advice);
+
+    // A copy of the repository that nothing was built in.
+    fs::create_dir(place.join("include")).expect("a folder");
+    for name in ["install", "include/nattveldi.h"] {
+        fs::copy(root().join(name), place.join(name)).expect("a copy");
+    }
+    let output = command(&place, &words).output().expect("./install runs");
+    let archive = place.join("target/staticlib/libnattveldi_c.a");
+    check_missing(output, &archive, "Run `rt staticlib nattveldi_c` in ");
+    assert!(!prefix.exists());
+}
+
 #[test]
 fn bad_usage() {
+    let place = place("usage");
     for (words, fault) in [
         (&["--prefx", "/x"][..], "unknown argument --prefx"),
         (&["x"], "unknown argument x"),
@@ -341,7 +409,7 @@ fn bad_usage() {
             "a path that pkg-config cannot tell: /usr/local/a$b",
         ),
     ] {
-        let output = install(&root(), words);
+        let output = install_from(&place, words);
         let error = String::from_utf8(output.stderr).expect("text");
         assert_eq!(error, format!("install: {fault}; try ./install --help\n"));
         assert_eq!(

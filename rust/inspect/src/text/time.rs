@@ -95,6 +95,19 @@ mod tests {
         assert_eq!(date(262_777_739_970), "10331-02-05 00:39:25");
     }
 
+    /// A leap second ends the day before each of these dates, and no other.
+    #[test]
+    fn the_days_are_the_dates() {
+        let dates = [(2006, 1), (2009, 1), (2012, 7), (2015, 7), (2017, 1)];
+        let days = dates.map(|(year, month)| calendar::day(year, month, 1).expect("a date"));
+        let last = |day| leap::Utc {
+            day: day - 1,
+            second: leap::SECONDS_A_DAY,
+        };
+        let days_after = (1..100_000).filter(|&day| leap::tai(last(day)).is_some());
+        assert_eq!(days_after.collect::<Vec<u64>>(), days);
+    }
+
     #[test]
     fn the_unit_is_said() {
         assert_eq!(second(0), "TAI second 0 = 2004-01-01 00:00:00 UTC");
