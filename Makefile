@@ -17,11 +17,11 @@ page: ## draw the withdrawal page of the example with the proved program
 certificate: ## print the fields and the id of the example ticket
 	./read-certificate
 
-archive: ## prove the library and write target/staticlib/libnattveldi_c.a
-	rt staticlib nattveldi_c
+archive: ## prove the library and write crates/nattveldi_c/out/libnattveldi_c.a
+	cd crates/nattveldi_c && rt lib --cpu x86-64
 
-check: ## prove what changed since the last proof (rt check); no edits, no Rust tests
-	rt check
+check: ## prove what changed since the last proof (rt all check); no edits, no Rust tests
+	rt all check
 
 documents: ## hold the documents to the sources, and look for unused lemmas; seconds
 	.ci/documents
@@ -30,7 +30,7 @@ test: ## the gate: proofs from nothing, must-fail edits, programs, tests; up to 
 	.ci/run
 
 fmt: ## format the Rattle and Rust sources
-	rt fmt
+	for crate in crates/*/; do (cd "$$crate" && rt fmt) || exit 1; done
 	$(CARGO) fmt --all
 
 doc: ## write the documentation of the Rust bindings to rust/target/doc

@@ -1,8 +1,8 @@
 /* Installs a root in an empty store, admits certificates below it, and prints
- * each answer and then the filled slots. To build it, after
- * `rt staticlib nattveldi_c` in the repository's root:
+ * each answer and then the filled slots. To build it, after `make archive` in the
+ * repository's root:
  *
- *   cc -std=c99 -Iinclude examples/admit.c target/staticlib/libnattveldi_c.a -o admit
+ *   cc -std=c99 -Iinclude examples/admit.c crates/nattveldi_c/out/libnattveldi_c.a -o admit
  *
  * The example certificates are hex text with comments; as octets they come from
  *

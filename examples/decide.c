@@ -2,10 +2,9 @@
  * an authority below it, works out for each message what the chip is to be
  * asked, asks it, decides, and prints the payload. A certificate that an
  * accepted message carries is admitted to the store, so that later messages can
- * name it by id. To build it, after `rt staticlib nattveldi_c` in the
- * repository's root:
+ * name it by id. To build it, after `make archive` in the repository's root:
  *
- *   cc -std=c99 -Iinclude examples/decide.c target/staticlib/libnattveldi_c.a -o decide
+ *   cc -std=c99 -Iinclude examples/decide.c crates/nattveldi_c/out/libnattveldi_c.a -o decide
  *
  * The example files are hex text with comments; as octets they come from
  *

@@ -1,7 +1,7 @@
 /* Reads a certificate from standard input and prints some of its fields and its
- * id. To build it, after `rt staticlib nattveldi_c` in the repository's root:
+ * id. To build it, after `make archive` in the repository's root:
  *
- *   cc -std=c99 -Iinclude examples/read.c target/staticlib/libnattveldi_c.a -o read
+ *   cc -std=c99 -Iinclude examples/read.c crates/nattveldi_c/out/libnattveldi_c.a -o read
  *
  * The example certificate is hex text with comments; as octets it comes from
  *

@@ -1,10 +1,10 @@
 /* Builds a store from a root and certificates below it, and goes through the
  * three pages of a console: what the store holds and what of it stands at a
  * second; what would no longer stand without the root; and, when the root is
- * withdrawn, what the store holds then. To build it, after
- * `rt staticlib nattveldi_c` in the repository's root:
+ * withdrawn, what the store holds then. To build it, after `make archive` in the
+ * repository's root:
  *
- *   cc -std=c99 -Iinclude examples/withdraw.c target/staticlib/libnattveldi_c.a -o withdraw
+ *   cc -std=c99 -Iinclude examples/withdraw.c crates/nattveldi_c/out/libnattveldi_c.a -o withdraw
  *
  * The example certificates are hex text with comments; as octets they come from
  *

@@ -8,6 +8,8 @@ use std::process::Command;
 
 const LIBRARY: &str = "nattveldi_c";
 const ARCHIVE: &str = "libnattveldi_c.a";
+/// The folder in a clone to which `make archive` writes the archive.
+const MADE: &str = "crates/nattveldi_c/out";
 const FOLDER_VARIABLE: &str = "NATTVELDI_LIB_DIR";
 const VERSION: &str = env!("CARGO_PKG_VERSION");
 
@@ -31,14 +33,14 @@ fn say(how: &str, text: &str) {
 }
 
 /// The archive's folder, if there is one: the one that the variable names, or
-/// else that of `rt staticlib`, or else where this version is installed.
+/// else that of `make archive`, or else where this version is installed.
 fn folder(clone: Option<&Path>) -> Result<Option<PathBuf>, String> {
     println!("cargo::rerun-if-env-changed={FOLDER_VARIABLE}");
     let named = env::var_os(FOLDER_VARIABLE).filter(|name| !name.is_empty());
     if let Some(named) = named {
         return named_folder(PathBuf::from(named)).map(Some);
     }
-    let made = clone.map(|root| root.join("target/staticlib"));
+    let made = clone.map(|root| root.join(MADE));
     let made = made.filter(|folder| has_archive(folder));
     Ok(made.or_else(|| installed().filter(|folder| has_archive(folder))))
 }
@@ -93,15 +95,12 @@ fn missing(clone: Option<&Path>) {
 
 fn advice(clone: Option<&Path>) -> String {
     let (missing, place) = match clone.map(Path::display) {
-        Some(root) => (
-            format!("{root}/target/staticlib/{ARCHIVE}"),
-            root.to_string(),
-        ),
+        Some(root) => (format!("{root}/{MADE}/{ARCHIVE}"), root.to_string()),
         None => (ARCHIVE.to_string(), "a clone of Nattveldi".to_string()),
     };
     format!(
         "the proved library is missing, so nothing can be linked: there is no {missing}\n\
-         run `rt staticlib {LIBRARY}` in {place} to prove it and make the archive, or\n\
+         run `make archive` in {place} to prove it and make the archive, or\n\
          name the folder of an archive in {FOLDER_VARIABLE}, or install version {VERSION} so that \
          pkg-config finds it"
     )

@@ -3,20 +3,22 @@ import re
 
 from .sources import NAME, split_at
 
-NAT, BOOL, DEC, SIGNED = "Prim.Native.Nat", "mathlib.Core.Bool", "lib.Dec", "lib.Signed"
+PRELUDE, SIGNED = "Rattle.std.specs.Prelude", "Rattle.std.specs.Int.Signed"
 WORD = r"(?<![^\s(){};,])%s(?![^\s(){};,])"  # a name by itself, not a part of a longer one
+FIELD = r"(?<=[^\s({};,.])\.(%s)" % NAME  # a field is written tight
+DECLARED = re.compile(r"(?:(?:abbrev|unfoldable|opaque|pub) )*(%s)(?: \{[^{}]*\})* : " % NAME)
 
 SWAPS = {
-    "comparison": [("leb", "ltb", DEC, "ltb"), ("ltb", "leb", DEC, "leb"), ("eqb", "leb", DEC, "leb"), ("leZ", "ltZ", SIGNED, "ltZ"), ("ltZ", "leZ", SIGNED, "leZ"),
-                   ("≤", "<", NAT, "_<_"), ("<", "≤", NAT, "_≤_"), ("≤ℤ", "<ℤ", SIGNED, "_<ℤ_"), ("<ℤ", "≤ℤ", SIGNED, "_≤ℤ_")],
-    "arithmetic": [("+", "-", NAT, "_-_"), ("-", "+", NAT, "_+_"), ("*", "+", NAT, "_+_"), ("/", "*", NAT, "_*_"), ("%", "/", NAT, "_/_")],
-    "connective": [("&&", "||", BOOL, "_||_"), ("||", "&&", BOOL, "_&&_")],
-    "truth": [("true", "false", BOOL, "false"), ("false", "true", BOOL, "true")],
+    "comparison": [("leb", "ltb", PRELUDE, "ltb"), ("ltb", "leb", PRELUDE, "leb"), ("eqb", "leb", PRELUDE, "leb"), ("le_z", "lt_z", SIGNED, "lt_z"), ("lt_z", "le_z", SIGNED, "le_z"),
+                   ("≤", "<", PRELUDE, "◌<◌"), ("<", "≤", PRELUDE, "◌≤◌"), ("≤ℤ", "<ℤ", PRELUDE, "◌<ℤ◌"), ("<ℤ", "≤ℤ", PRELUDE, "◌≤ℤ◌")],
+    "arithmetic": [("+", "-", PRELUDE, "◌-◌"), ("-", "+", PRELUDE, "◌+◌"), ("*", "+", PRELUDE, "◌+◌"), ("/", "*", PRELUDE, "◌*◌"), ("%", "/", PRELUDE, "◌/◌")],
+    "connective": [("&&", "||", PRELUDE, "◌||◌"), ("||", "&&", PRELUDE, "◌&&◌")],
+    "truth": [("true", "false", PRELUDE, "false"), ("false", "true", PRELUDE, "true")],
 }
 
 
 def atom(text, at):
-    """The end of the argument that starts at `at`: a name, a number, or what stands in brackets; None if there is none."""
+    """The end of the argument that starts at `at`: a name, a number, or what stands in brackets, each with its fields; None if there is none."""
     if at >= len(text) or text[at] in " )};,=":
         return None
     if text[at] not in "({":
@@ -25,18 +27,19 @@ def atom(text, at):
     for end in range(at, len(text)):
         depth += (text[end] in "({") - (text[end] in ")}")
         if depth == 0:
-            return end + 1
+            return re.compile(r"(\.[^\s(){};,]+)?").match(text, end + 1).end()
     return None
 
 
 def arguments(text, at):
-    """The places of the arguments that follow a name."""
+    """The places of the arguments that follow a name, without those in braces, which the types pass over as well."""
     found = []
     while at < len(text) and text[at] == " ":
         end = atom(text, at + 1)
-        if end is None or re.fullmatch(r"[^\w(\[]+", text[at + 1:end]) or text[at + 1] == "." or text[at + 1:end] in ("→", "λ"):
+        if end is None or re.fullmatch(r"[^\w(\[{]+", text[at + 1:end]) or text[at + 1:end] in ("→", "λ"):
             break
-        found.append((at + 1, end))
+        if text[at + 1] != "{":
+            found.append((at + 1, end))
         at = end
     return found
 
@@ -69,9 +72,9 @@ def tests(text, types, names):
         if match.group() == "not":
             yield "test", match.start(), end, text[start:end], ()
         elif text[start:end] not in ("true", "false"):
-            yield "test", start, end, "true", ((BOOL, "true"),)
+            yield "test", start, end, "true", ((PRELUDE, "true"),)
             if match.group() in ("pick", "fork"):
-                yield "test", start, end, "false", ((BOOL, "false"),)
+                yield "test", start, end, "false", ((PRELUDE, "false"),)
 
 
 def exchanges(text, types, names):
@@ -103,14 +106,14 @@ def values(text, types, names):
 
 
 def projections(text, types, names):
-    for match in re.finditer(r"(?<= )\.([^\s(){};,.]+)", text):
+    for match in re.finditer(FIELD, text):
         for other in sorted(types.siblings.get(match.group(1), set()) & names):
             yield "field", match.start(1), match.end(1), other, ()
 
 
 def others(text, types, names):
     """Another definition of the same type, among those that the file has or brings in."""
-    for match in re.finditer(WORD % NAME, text):
+    for match in re.finditer(r"(?<![^\s(){};,])%s(?![^\s(){};,.])" % NAME, text):  # a field may follow
         kind = types.results.get(match.group())
         if kind is None or match.group() not in names:
             continue
@@ -145,47 +148,52 @@ def exchanged_rows(lines, at):
 
 def names_in(lines):
     """The names that a file brings in or defines itself, and the fields that it names: others of a type are seldom of the same record."""
-    names = set(re.findall(r"(?<= )\.(%s)" % NAME, "\n".join(lines)))
+    names = set(re.findall(FIELD, "\n".join(lines)))
     for line in lines:
         match = re.match(r"use [^{]*\{(.*)\}$", line)
         if match:
             names |= {part.strip() for part in match.group(1).split(",") if " as " not in part}
-        match = re.match(r"(?:abbrev |unfoldable )?pub (%s) : " % NAME, line)
+        match = DECLARED.match(line)
         if match:
             names.add(match.group(1))
     return names
 
 
 def editable(lines):
-    """Yields (line, column): from there on the line is a definition's right side or a statement. Signatures, imports and comments are not."""
-    within = None  # "equation", "statements" of a record or data type, or None
+    """Yields (line, column, name): from there on the line is the right side of this definition or a statement. Signatures, imports and comments are not."""
+    within, name = None, ""  # "equation", "statements" of a record or data type, or None
+    modules = []  # how far the modules are indented in which a line stands
     for at, line in enumerate(lines):
-        if not line.strip() or line.lstrip().startswith("--"):
+        code = line.lstrip()
+        indent = len(line) - len(code)
+        if not code or code.startswith("--"):
             continue
-        if line.startswith(" "):
-            statement = re.match(r"\s+(?:pub )?%s : " % NAME, line)
+        while modules and indent <= modules[-1]:
+            modules.pop()
+        if re.match(r"module .* where$", code):
+            modules.append(indent)
+            within = None
+        elif indent > (modules[-1] + 2 if modules else 0):
+            statement = re.match(r"(?:pub )?%s : " % NAME, code)
             if within == "equation":
-                yield at, len(line) - len(line.lstrip())
+                yield at, indent, name
             elif within == "statements":
-                yield at, statement.end() if statement else len(line) - len(line.lstrip())
-        elif re.match(r"(abbrev |unfoldable )?pub |use |mod |infix", line):
+                yield at, indent + (statement.end() if statement else 0), name
+        elif DECLARED.match(code) or re.match(r"(?:pub )?(record|data|use|mod|infix\w*) ", code):
             within = "statements" if line.endswith(" where") else None
         elif " = " in line or line.endswith(" ="):
-            within = "equation"
-            yield at, line.index(" =") + 2
+            within, name = "equation", re.match(NAME, code).group()
+            yield at, line.index(" =") + 2, name
 
 
 def edits_in(text, types):
     """Yields (line from 1, rule, old lines, new lines, imports)."""
     lines = text.splitlines()
     names = names_in(lines)
-    own = set()  # a definition that names itself anew would only not end
-    for at, column in editable(lines):
+    for at, column, own in editable(lines):
         part = lines[at][column:]
-        if not lines[at].startswith(" "):
-            own = {re.match(NAME, lines[at]).group()}
         for rule in RULES:
-            for name, start, end, new, imports in rule(part, types, names - own):
+            for name, start, end, new, imports in rule(part, types, names - {own}):  # a definition that names itself anew would only not end
                 yield at + 1, name, lines[at], lines[at][:column] + part[:start] + new + part[end:], imports
         for name, old, new in exchanged_rows(lines, at):
             yield at + 1, name, old, new, ()

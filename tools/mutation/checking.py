@@ -1,20 +1,24 @@
 """The checker: what is run for a crate, and what its words mean.
 
 `rattle check --incremental` over a folder that holds what an unedited check found takes only what an edit touches, and depends on no path; its
-words are all printed at the end, so a check cannot be stopped at the first error. It is what `rt dev` runs. A crate that passes so is proved once
-more from nothing (`rattle build`, what `rt check` runs), which also writes the library that the crates above are checked against."""
+words are all printed at the end, so a check cannot be stopped at the first error. It is what `rt check` runs. A crate that passes so is proved once
+more from nothing (`rattle build`), which also writes the library that the crates above are checked against."""
 import os
 import re
 import shutil
+import signal
 import subprocess
 import threading
 
-from .sources import crates_of, text_of
+from .sources import crates_of, static_libraries
 
+PARTS = ("src", "specs", "proofs")
 REFUSED, ILL_FORMED, MISFIT, PROVED, UNDECIDED = "refused", "ill-formed", "other shape", "proved", "not decided"
 ERROR = re.compile(r"^\S[^\n]*: error[^\n]*(?:\n[ \t]+[^\n]*)*", re.M)  # a message goes on in lines that are indented
 # A proof that names what the edited function no longer has (a need, a field, a step) says nothing about the fact itself.
-SHAPE = re.compile(r"that can be named from here|\bhas no field\b|this pattern needs a|which is not a data type|is in a cycle of calls")
+SHAPE = re.compile(r"that can be named from here|\bhas no (?:field\b|`)|is not in scope|this pattern needs a|which is not a data type|is in a cycle of calls|this file exports no `")
+WAITS = re.compile(r"w(?:as|ere) not (?:admitted|checked)")  # for another proof, which fails
+UNFOUND = re.compile(r"^fn \S+: no proof: expected answers in (\S+)/Answers\.antt; `search` did not prove .*$", re.M)
 RUNNING = set()  # the provers that this run has started
 
 
@@ -23,39 +27,33 @@ class Interrupted(Exception):
 
 
 class Kit:
-    """Where the prover and its libraries are, as `rt` finds them."""
+    """Where the prover and its libraries are: around the page that `rt doc` names."""
 
     def __init__(self):
-        manual = subprocess.run(["rt", "doc"], check=True, capture_output=True, text=True).stdout.strip()
-        self.home = os.path.dirname(os.path.dirname(manual))
-        self.own = os.path.join(self.home, "on", os.uname().machine)
-        self.rattle = os.path.join(self.own, "bin", "rattle")
+        page = subprocess.run(["rt", "doc"], check=True, capture_output=True, text=True).stdout.strip()
+        self.home = os.path.dirname(page)
+        self.rattle = os.path.join(self.home, "bin", "rattle")
+        self.rlibs = os.path.join(self.home, "rlibs")
 
 
 class Copy:
-    """A copy of the repository with its proved target/, in which no file is edited; edited crates stand beside it."""
+    """A copy of the repository, in which no file is edited; edited crates stand beside it."""
 
-    def __init__(self, root, work, target):
-        self.root, self.work, self.target = root, work, target
+    def __init__(self, root, work):
+        self.root, self.work = root, work
         self.kit = Kit()
         self.crates = crates_of(root)
-        self.rlibs = os.path.join(work, "target", "rlib")
+        self.static = static_libraries(root)
+        self.proved = set()
         self.making = threading.Lock()
 
-    def make(self, say):
-        """Copies sources and libraries, and has `rt check` confirm that the libraries are those of the sources."""
-        os.makedirs(os.path.join(self.work, "target"), exist_ok=True)
-        for part in ("crates", "crates.txt"):
-            replace(os.path.join(self.root, part), os.path.join(self.work, part))
-        for part in ("rlib", "stamp"):
-            if not os.path.isdir(os.path.join(self.work, "target", part)):
-                shutil.copytree(os.path.join(self.target, part), os.path.join(self.work, "target", part))
-        libraries = [name for name in self.crates if not self.is_program(name)]
-        say("confirming that target/ is proved and current (rt check)")
-        environment = dict(os.environ, RT_JOBS="1")
-        ended = subprocess.run(["rt", "check", *libraries], cwd=self.work, env=environment, capture_output=True, text=True)
-        if ended.returncode:
-            raise SystemExit("the copy is not proved as it stands:\n" + ended.stdout[-2000:] + ended.stderr[-2000:])
+    def make(self):
+        """Copies the sources; what `rt check` left in an earlier run stays, and it takes it up where it fits."""
+        for crate in self.crates:
+            os.makedirs(self.folder(crate), exist_ok=True)
+            for part in PARTS:
+                replace(os.path.join(self.root, "crates", crate, part), os.path.join(self.folder(crate), part))
+        shutil.copy(os.path.join(self.root, "crates.txt"), self.work)
 
     def folder(self, crate):
         return os.path.join(self.work, "crates", crate)
@@ -63,54 +61,60 @@ class Copy:
     def is_program(self, crate):
         return os.path.isfile(os.path.join(self.root, "crates", crate, "src", "main.rt"))
 
-    def words(self, crate, folder, overlay=None):
-        """What every command on a crate takes; a library that the overlay has is taken from there."""
-        name = "main.rt" if self.is_program(crate) else "lib.rt"
-        words = ["--crate-name", crate, os.path.join(folder, "src", name), "--extern", f"std={self.kit.own}/rlib/std.rlib"]
-        places = ([overlay] if overlay else []) + [self.rlibs, os.path.join(self.kit.own, "rlib")]
+    def makes_library(self, crate):
+        return not self.is_program(crate) and crate not in self.static
+
+    def words(self, crate, overlay=None):
+        """What every command on a crate takes in its folder; a library that the overlay has is taken from there."""
+        words = ["--crate-name", crate, "src/main.rt" if self.is_program(crate) else "src/lib.rt"]
+        libraries, places = {"std": self.kit.rlibs}, [self.kit.rlibs]
         for dep in self.crates[crate]:
-            place = next(p for p in places if os.path.isdir(os.path.join(p, dep + ".rlib")))
+            own = os.path.join(self.folder(dep), "out", "rlib") if dep in self.crates else self.kit.rlibs
+            edited = overlay and os.path.isdir(os.path.join(overlay, dep + ".rlib"))
+            libraries[dep] = overlay if edited else own
+            places.append(libraries[dep])
+        for dep, place in libraries.items():
             words += ["--extern", f"{dep}={place}/{dep}.rlib"]
-        for place in places:
+        for place in dict.fromkeys(places):
             words += ["-L", f"dependency={place}"]
-        return words + ["--antt-project", f"{self.kit.home}/logic/antt-project.json", "--logic-built", f"{self.kit.own}/logic-built"]
+        words += ["--antt-project", f"{self.kit.home}/rattle/logic/antt-project.json", "--logic-built", f"{self.kit.home}/logic_built"]
+        words += ["--jobs", "1", "--links", f"{crate}="]
+        return words + (["--crate-type", "staticlib"] if crate in self.static else [])
 
     def incremental(self, crate):
-        """The folder of the unedited crate's check, made once for the sources that the crate's stamp stands for."""
-        folder = os.path.join(self.work, "target", "inc", crate)
+        """The folder of the unedited crate's check, which `rt check` makes once in a run, with the libraries below it."""
         with self.making:
-            if not os.path.isfile(folder + ".stamp") or text_of(folder + ".stamp") != self.stamp(crate):
-                self.make_incremental(crate, folder)
-        return folder
-
-    def make_incremental(self, crate, folder):
-        shutil.rmtree(folder, ignore_errors=True)
-        os.makedirs(folder)
-        result, words = run([self.kit.rattle, "check", *self.words(crate, self.folder(crate)), "--incremental", folder], None)
-        if result != PROVED:
-            raise SystemExit(f"{crate} is not proved unedited: {first_error(words)}")
-        with open(folder + ".stamp", "w", encoding="utf-8") as file:
-            file.write(self.stamp(crate))
-
-    def stamp(self, crate):
-        """A library's stamp is rt's; a program has none here, so that of what it uses stands for it."""
-        path = os.path.join(self.work, "target", "stamp", crate)
-        if os.path.isfile(path):
-            return text_of(path)
-        return "".join(text_of(self.work, "target", "stamp", dep) for dep in self.crates[crate] if dep in self.crates)
+            if crate not in self.proved:
+                result, words = run(["rt", "check", "--jobs", "1"], None, self.folder(crate))
+                if result != PROVED:
+                    raise SystemExit(f"{crate} is not proved unedited: {first_error(words)}")
+                self.proved.add(crate)
+        return os.path.join(self.folder(crate), "out", "incremental")
 
 
 def replace(source, target):
+    shutil.rmtree(target, ignore_errors=True)
     if os.path.isdir(source):
-        shutil.rmtree(target, ignore_errors=True)
         shutil.copytree(source, target)
-    else:
-        shutil.copy(source, target)
 
 
-def run(command, seconds):
-    """Runs the prover for at most so many seconds; what came of it, and all it said."""
-    child = subprocess.Popen(command, stdout=subprocess.PIPE, stderr=subprocess.STDOUT, text=True, errors="replace")
+def copied(source, target):
+    """Copies the folder of a check; of the large files, which a check replaces and never writes into, each gets a second name."""
+
+    def copy(one, other):
+        try:
+            if one.endswith(".oantt"):
+                return os.link(one, other)
+        except OSError:
+            pass
+        return shutil.copy2(one, other)
+
+    shutil.copytree(source, target, copy_function=copy)
+
+
+def run(command, seconds, folder):
+    """Runs the prover in a crate's folder for at most so many seconds; what came of it, and all it said."""
+    child = subprocess.Popen(command, cwd=folder, stdin=subprocess.DEVNULL, stdout=subprocess.PIPE, stderr=subprocess.STDOUT, text=True, errors="replace", start_new_session=True)
     RUNNING.add(child)
     try:
         words = child.communicate(timeout=seconds)[0]
@@ -124,9 +128,9 @@ def run(command, seconds):
 
 
 def end(child):
-    """Ends a prover that still runs: nothing else knows of it."""
+    """Ends a prover that still runs, with what it has started: nothing else knows of it."""
     if child.poll() is None:
-        child.kill()
+        os.killpg(child.pid, signal.SIGKILL)
         child.wait()
     RUNNING.discard(child)
 
@@ -144,8 +148,12 @@ def outcome(status, words):
 
 def facts(words):
     """The messages that say that a fact fails, and not only that a proof waits for another or has another shape."""
-    failed = [message for message in ERROR.findall(words) if "was not admitted" not in message and not SHAPE.search(message)]
-    return failed + re.findall(r"^fn .*: no proof: .*`search` does not close.*$", words, re.M)
+    messages = [message for message in ERROR.findall(words) if not WAITS.search(message)]
+    misfits = [message for message in messages if SHAPE.search(message)]
+    failed = [message for message in messages if message not in misfits]
+    # a goal without an answer: where the function's answers name what is no more, it may be another's goal
+    unfound = [found for found in UNFOUND.finditer(words) if not any(message.startswith(found.group(1) + "/") for message in misfits)]
+    return failed + [found.group() for found in unfound]
 
 
 def first_error(words):

@@ -9,15 +9,12 @@ from .sources import files_of, text_of
 # The crates, the definitions of public operations first. Programs, benchmark archives and computed tables are left out.
 CRATES = ("certificate attributes restrictions headers message octets geo scope records store validity chain withdrawal page_text text entries "
           "admission signing verification field_words answer_words nattveldi_c order bitfields sha256 layout message_layout writing").split()
-SKIPPED = ("specs/Example.antt",)  # computed examples: a table of octets, guarded by the fact that it is computed
 
 
 def edits_of(root, crate, types):
     """Every edit that the rules find in a crate."""
     found = {}
     for file in files_of(root, crate):
-        if file in SKIPPED:
-            continue
         code = file.endswith(".rt")
         text = text_of(root, "crates", crate, file)
         for line, rule, old, new, imports in (rattle_rules if code else antt_rules).edits_in(text, types):

@@ -11,7 +11,7 @@ import threading
 import time
 
 from . import report
-from .checking import RUNNING, Copy, Interrupted
+from .checking import RUNNING, Copy, Interrupted, end
 from .choosing import CRATES, choose, together
 from .judging import Judge
 from .sources import Types, crates_of
@@ -33,7 +33,6 @@ def arguments():
     parser.add_argument("--limit", type=float, default=360, metavar="SECONDS", help="the most for one edit, else it is not decided (default 360)")
     parser.add_argument("--together", type=int, default=8, metavar="K", help="code edits of up to K functions of a crate in one check (default 8; 1: each by itself)")
     parser.add_argument("--minutes", type=float, metavar="M", help="start no edit after so many minutes")
-    parser.add_argument("--target", default=os.path.join(ROOT, "target"), metavar="DIR", help="the proved target/ (default: the repository's; rt check makes it)")
     parser.add_argument("--work", default=os.path.join(tempfile.gettempdir(), "nattveldi-mutate"), metavar="DIR", help="the copy; what it keeps makes the next run start sooner")
     return parser.parse_args()
 
@@ -59,7 +58,7 @@ class Run:
 
     def __init__(self, todo, options):
         self.options = options
-        self.copy = Copy(ROOT, os.path.abspath(options.work), os.path.abspath(options.target))
+        self.copy = Copy(ROOT, os.path.abspath(options.work))
         self.waiting = queue.Queue()
         for part in together(todo, options.together):
             self.waiting.put(part)
@@ -97,10 +96,10 @@ class Run:
     def stop(self):
         self.end = -math.inf
         for child in list(RUNNING):
-            child.kill()
+            end(child)
 
     def all(self):
-        self.copy.make(say)
+        self.copy.make()
         with concurrent.futures.ThreadPoolExecutor(self.options.jobs) as pool:
             try:
                 for ended in [pool.submit(self.work, job) for job in range(self.options.jobs)]:

@@ -35,7 +35,7 @@ class Judge:
         crate = edits[0].crate
         self.copy.incremental(crate)
         began = time.monotonic()
-        result, words = self.check(crate, self.folder(crate), None, began)
+        result, words = self.check(crate, self.folder(crate), began)
         spent = (time.monotonic() - began) / len(edits)
         records, left = [], []
         for edit in edits:
@@ -56,10 +56,10 @@ class Judge:
 
     def decide(self, edit, began):
         """What came of it, the crate that refused, and what was said of it."""
-        result, words = self.check(edit.crate, self.folder(edit.crate), None, began)
+        result, words = self.check(edit.crate, self.folder(edit.crate), began)
         if result != PROVED:
             return result, edit.crate, words
-        result, words = self.build(edit.crate, began)
+        result, words = self.from_nothing(edit.crate, began)
         if result != PROVED:
             return result, edit.crate, words
         if edit.function:
@@ -68,7 +68,7 @@ class Judge:
             spent = time.monotonic()
             self.copy.incremental(crate)
             began += time.monotonic() - spent
-            result, words = self.check(crate, self.copy.folder(crate), self.overlay, began)
+            result, words = self.check_above(crate, began)
             if result != PROVED:
                 # a crate above is not edited: whatever it says, something of its own no longer holds
                 return (UNDECIDED if result == UNDECIDED else REFUSED), crate, words
@@ -81,7 +81,7 @@ class Judge:
         shutil.rmtree(self.room, ignore_errors=True)
         os.makedirs(self.overlay)
         crate = edits[0].crate
-        shutil.copytree(self.copy.folder(crate), self.folder(crate))
+        shutil.copytree(self.copy.folder(crate), self.folder(crate), ignore=shutil.ignore_patterns("out"))
         for edit in edits:
             path = os.path.join(self.folder(crate), edit.file)
             text = edit.apply(text_of(path))
@@ -91,20 +91,28 @@ class Judge:
     def left(self, began):
         return max(1.0, self.limit - (time.monotonic() - began))
 
-    def check(self, crate, folder, overlay, began):
+    def check(self, crate, folder, began, command=("check",)):
         """Over a copy of the unedited crate's folder, so that nothing of this edit is left for the next."""
-        known = os.path.join(self.room, "inc", crate)
-        shutil.copytree(self.copy.incremental(crate), known)
-        words = self.copy.words(crate, folder, overlay)
+        known = os.path.join(self.room, "known")
+        checking.copied(self.copy.incremental(crate), known)
+        words = self.copy.words(crate, self.overlay)
         try:
-            return checking.run([self.copy.kit.rattle, "check", *words, "--incremental", known], self.left(began))
+            return checking.run([self.copy.kit.rattle, *command, *words, "--incremental", known], self.left(began), folder)
         finally:
             shutil.rmtree(known)
 
-    def build(self, crate, began):
+    def check_above(self, crate, began):
+        """A crate above the edited one, over the libraries that the edit changes; it makes its own for those above it."""
+        command = ("build", *self.output(crate)) if self.copy.makes_library(crate) else ("check",)
+        return self.check(crate, self.copy.folder(crate), began, command)
+
+    def from_nothing(self, crate, began):
         """The verdict on the edited crate, from nothing, and the library that it makes."""
-        words = self.copy.words(crate, self.folder(crate))
-        return checking.run([self.copy.kit.rattle, "build", *words, "-o", os.path.join(self.overlay, crate + ".rlib")], self.left(began))
+        command = ("build", *self.output(crate)) if self.copy.makes_library(crate) else ("check",)
+        return checking.run([self.copy.kit.rattle, *command, *self.copy.words(crate)], self.left(began), self.folder(crate))
+
+    def output(self, crate):
+        return "-o", os.path.join(self.overlay, crate + ".rlib")
 
     def plain(self, text):
         """Paths as they are in the repository."""

@@ -107,25 +107,33 @@ def names_in(lines):
     """The functions and constants that a file brings in or declares itself, and the fields that it names."""
     names = set(re.findall(r"(?<=[\w\])])\.(\w+)\b(?!\()|^\s+(\w+): ", "\n".join(lines), re.M))
     names = {name for pair in names for name in pair if name}
+    for paths in re.findall(r"^use ([^;]+);", "\n".join(lines), re.M):
+        names |= set(re.findall(r"(\w+)\s*(?=[,}]|$)", paths))
     for line in lines:
-        match = re.match(r"use (?:\w+::)*(\w+);", line) or re.match(r"\s*(?:pub )?(?:const|fn) (\w+)", line)
+        match = re.match(r"\s*(?:pub )?(?:const|fn) (\w+)", line)
         if match:
             names.add(match.group(1))
     return names
 
 
+HEAD = re.compile(r"\s*(pub )?(extern \"C\" )?fn ")
+STATED = re.compile(r"(pub )?(use|struct|enum) ")
+
+
 def editable(lines):
     """The lines of bodies and of constants. Imports, comments, declarations of types, signatures and contracts are not."""
-    declaring = False
+    last = None  # the line with which a declaration or what stands before a body ends, while it lasts
     for at, line in enumerate(lines):
         word = line.strip()
-        if re.match(r"(pub )?(struct|enum) ", line):
-            declaring = not line.endswith((";", "}"))
-        elif declaring:
-            declaring = line != "}"
-        elif not re.match(r"(//|use |pub use |ghost |mod |pub mod |#|requires|ensures|decreases|impl )", word) and not re.match(r"(pub )?(extern \"C\" )?fn ", word):
-            if word not in ("", "{", "}"):
-                yield at
+        if last:
+            last = None if re.fullmatch(last, line) else last
+        elif HEAD.match(line):
+            indent = line[:len(line) - len(line.lstrip())]
+            last = None if line.endswith(("{", "}")) else indent + r"(\{|\).* \{)"
+        elif STATED.match(line):
+            last = None if line.endswith((";", "}")) else r"\};?"
+        elif not re.match(r"(//|ghost |mod |pub mod |#|requires|ensures|decreases|impl )", word) and word not in ("", "{", "}"):
+            yield at
 
 
 def function_at(file, lines, at):
@@ -151,7 +159,9 @@ def edits_in(text, types):
     names = names_in(lines)
     for at in editable(lines):
         code = lines[at].split(" //")[0]
-        own = function_at("src/.rt", lines, at).split("::")[-1]  # a function that calls itself instead would only not end
+        const = re.match(r"\s*(?:pub )?const (\w+)", code)
+        # a function that calls itself instead would only not end, and a constant with another name is another's twin
+        own = const.group(1) if const else function_at("src/.rt", lines, at).split("::")[-1]
         for rule in RULES:
             for name, start, end, new in rule(code, types, names - {own}):
                 yield at + 1, name, lines[at], lines[at][:start] + new + lines[at][end:], ()

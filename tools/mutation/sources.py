@@ -4,7 +4,8 @@ import glob
 import os
 import re
 
-NAME = r"[^\s(){};,.]+"  # a name of antt's may hold signs such as - and ·
+SKIPPED = ("specs/Example.antt",)  # computed examples: a table of octets, guarded by the fact that it is computed
+NAME = r"[^\s(){};,.]+"  # a name of antt's may hold signs such as - and ◌
 
 
 def text_of(*path):
@@ -12,14 +13,19 @@ def text_of(*path):
         return file.read()
 
 
+def rows_of(root):
+    """The rows of crates.txt: the name and the words behind it, such as staticlib, and the crates that it names."""
+    rows = [line.partition("#")[0].partition(":") for line in text_of(root, "crates.txt").splitlines()]
+    return [(head.split(), deps.split()) for head, colon, deps in rows if colon]
+
+
 def crates_of(root):
     """NAME -> the crates that it names, in the order of crates.txt."""
-    crates = {}
-    for line in text_of(root, "crates.txt").splitlines():
-        name, colon, deps = line.partition("#")[0].partition(":")
-        if colon:
-            crates[name.strip()] = deps.split()
-    return crates
+    return {head[0]: deps for head, deps in rows_of(root)}
+
+
+def static_libraries(root):
+    return {head[0] for head, _ in rows_of(root) if "staticlib" in head}
 
 
 def above(crates, name):
@@ -37,14 +43,14 @@ def files_of(root, crate):
     """The files of a crate that edits are looked for in, definitions first, as paths inside the crate."""
     folder = os.path.join(root, "crates", crate)
     paths = sorted(glob.glob(os.path.join(folder, "specs", "*.antt"))) + sorted(glob.glob(os.path.join(folder, "src", "**", "*.rt"), recursive=True))
-    return [os.path.relpath(path, folder) for path in paths]
+    return [file for file in (os.path.relpath(path, folder) for path in paths) if file not in SKIPPED]
 
 
 class Types:
     """What the sources say of types, by their text alone: enough to exchange like with like."""
 
     def __init__(self, root, crates):
-        self.signatures = {"leb": ["ℕ", "ℕ"], "ltb": ["ℕ", "ℕ"], "leZ": ["ℤ", "ℤ"], "ltZ": ["ℤ", "ℤ"]}
+        self.signatures = {"leb": ["ℕ", "ℕ"], "ltb": ["ℕ", "ℕ"], "le_z": ["ℤ", "ℤ"], "lt_z": ["ℤ", "ℤ"]}
         self.results = {}  # a name of antt's -> its whole type
         self.functions = {}  # a function -> the types of its parameters and of its answer
         self.constants = {}  # a constant of the code -> its type
@@ -55,10 +61,11 @@ class Types:
                 self._definitions(text) if path.endswith(".antt") else self._code(text)
 
     def _definitions(self, text):
-        for name, kind in re.findall(r"^(?:abbrev |unfoldable )?pub (%s) : (.+)$" % NAME, text, re.M):
+        for name, lines in re.findall(r"^(?:abbrev |unfoldable )?pub (%s) : (.+(?:\n +.+)*)$" % NAME, text, re.M):
+            kind = " ".join(lines.split())
             # a name that two crates give to different types says nothing
-            self.results[name] = kind.strip() if self.results.get(name, kind.strip()) == kind.strip() else None
-            self.signatures.setdefault(name, [part.strip() for part in split_at(kind, "→")][:-1])
+            self.results[name] = kind if self.results.get(name, kind) == kind else None
+            self.signatures.setdefault(name, parameters(kind))
         for block in re.findall(r"^pub record [^\n]* where\n((?:  .*\n?)+)", text, re.M):
             self._siblings(re.findall(r"^  pub (%s) : (\S+)$" % NAME, block, re.M))
 
@@ -73,6 +80,12 @@ class Types:
     def _siblings(self, fields):
         for name, kind in fields:
             self.siblings[name] |= {other for other, same in fields if same == kind and other != name}
+
+
+def parameters(kind):
+    """The types of a definition's arguments, without those in braces, which are not written out."""
+    parts = [part.strip() for part in split_at(kind, "→")][:-1]
+    return [part for part in parts if not part.startswith("{")]
 
 
 def split_at(text, sign):

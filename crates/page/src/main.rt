@@ -1,55 +1,80 @@
-// The program `page` (document 01, "The page program"): it prints the page for what standard input holds. What it prints for
-// its input is proved of `page_text::page`. Reading and writing are the C library's.
+// The program `page` (document 01, "The page program"): it prints the page for what standard input
+// holds. That is proved of every reader and writer whose octets a contract can name; which octets
+// the system gives and takes, no contract says.
 #![tactic(auto)]
 
-ghost use Rattle.std.specs.Prelude.{◌≡◌, ◌+◌, length};
-ghost use Rattle.page_text.specs.Page.{input_length};
+ghost use Rattle.std.specs.Prelude.{◌≡◌, ◌+◌, ◌<◌, length, take, OnOk, IfSome};
+ghost use Rattle.std.specs.Io.KnownBytes.{Appends, Consumes, IsAtEnd};
+ghost use Rattle.page_text.specs.Page.{input_length, page_text};
 ghost use Rattle.page_text.specs.Sizes.{page_length};
-ghost use Rattle.page.specs.Inputs.{Inside};
+ghost use Rattle.page.specs.Inputs.{Inside, OnOctets};
 
 use page_text::page;
 use page_text::sizes::{INPUT_LENGTH, PAGE_LENGTH};
+use std::io::{Read, Write};
+use std::{fmt, io};
 
 const INPUT_ROOM: usize = INPUT_LENGTH + 1;
 
-// How many octets were read up to the end of the input or of the room for it, or that a read failed.
+// How many octets were read up to the end of the input or of the room for it, or that a read
+// failed.
 #[derive(Clone, Copy)]
 enum Input {
     Octets(usize),
     Failed,
 }
 
-// One read of standard input: how many octets came, none at its end.
-fn read_some(buffer: &mut [u8]) -> Input
-    ensures { Inside result (length buffer.new) }
-{
-    let got = libc::read(0, buffer);
-    if got < 0 {
-        return Input::Failed;
-    }
-    Input::Octets(io::count(got, buffer))
+// Why no page, or only a part of one, was printed.
+#[derive(Clone, Copy)]
+enum Failure {
+    Reading,
+    Writing,
 }
 
-// Reads standard input to its end, or until the buffer is full.
-fn read_input(buffer: &mut [u8]) -> Input
-    ensures { Inside result (length buffer.new) }
+impl fmt::Display for Failure {
+    fn fmt<W: fmt::Write>(&self, f: &mut fmt::Formatter<W>) -> fmt::Result {
+        match self {
+            Failure::Reading => write!(f, "cannot read standard input"),
+            Failure::Writing => write!(f, "cannot write to standard output"),
+        }
+    }
+}
+
+// One read: how many octets came, none at the end of the input.
+fn read_some<R: Read>(reader: &mut R, buffer: &mut [u8]) -> Input
+    ensures inside { Inside result (length buffer.new) }
+    ensures octets { OnOctets result
+        (λ n. Consumes (R.remaining reader.old) (R.remaining reader.new) (take n buffer.new)) }
+    ensures end { OnOctets result
+        (λ n. n ≡ 0 → 0 < length buffer.new → IsAtEnd (R.remaining reader.new)) }
+{
+    match reader.read(buffer) {
+        Ok(n) => Input::Octets(n),
+        Err(_) => Input::Failed,
+    }
+}
+
+// Reads to the end of the input, or until the buffer is full.
+fn read_input<R: Read>(reader: &mut R, buffer: &mut [u8]) -> Input
+    ensures inside { Inside result (length buffer.new) }
+    ensures octets { OnOctets result
+        (λ n. Consumes (R.remaining reader.old) (R.remaining reader.new) (take n buffer.new)) }
+    ensures end { OnOctets result
+        (λ n. n < length buffer.new → IsAtEnd (R.remaining reader.new)) }
 {
     let mut n = 0;
     while n < buffer.len() {
-        let step = read_some(&mut buffer[n..]);
-        let Input::Octets(k) = step else {
-            return Input::Failed;
-        };
-        if k == 0 {
-            break;
+        match read_some(reader, &mut buffer[n..]) {
+            Input::Octets(0) => return Input::Octets(n),
+            Input::Octets(k) => n += k,
+            Input::Failed => return Input::Failed,
         }
-        n += k;
     }
     Input::Octets(n)
 }
 
-// Room for one octet more than an input has, so that a longer one is seen. The length is given as a fact, so that no proof
-// computes the array.
+// Room for one octet more than an input has, so that a longer one is seen. The length is given as
+// a fact, so that no proof computes the array.
 fn room_for_input() -> [u8; INPUT_ROOM]
     ensures { input_length + 1 ≡ length result }
 {
@@ -63,20 +88,33 @@ fn room_for_text() -> [u8; PAGE_LENGTH]
 }
 
 // Prints the page for an input.
-fn print_page(input: &[u8]) {
+fn print_page<W: Write>(writer: &mut W, input: &[u8]) -> io::Result<()>
+    ensures { OnOk result
+        (Appends (W.contents writer.old) (W.contents writer.new) (page_text input.now)) }
+{
     let mut text = room_for_text();
     let n = page(input, &mut text) as usize;
-    if !io::write_all(1, &text[..n]) {
-        io::write_all(2, b"page: cannot write to standard output\n");
+    writer.write_all(&text[..n])
+}
+
+// Prints the page for all that the reader has. Of an input that is too long the rest is not read.
+fn answer<R: Read, W: Write>(reader: &mut R, writer: &mut W) -> Result<(), Failure>
+    ensures { OnOk result (IfSome (R.remaining reader.old)
+        (λ input. Appends (W.contents writer.old) (W.contents writer.new) (page_text input))) }
+{
+    let mut buffer = room_for_input();
+    let Input::Octets(n) = read_input(reader, &mut buffer) else {
+        return Err(Failure::Reading);
+    };
+    match print_page(writer, &buffer[..n]) {
+        Ok(()) => Ok(()),
+        Err(_) => Err(Failure::Writing),
     }
 }
 
-fn main() {
-    let mut buffer = room_for_input();
-    match read_input(&mut buffer) {
-        Input::Octets(n) => print_page(&buffer[..n]),
-        Input::Failed => {
-            io::write_all(2, b"page: cannot read standard input\n");
-        }
+// The exit status is 0 in each case. Where the message cannot be written either, nobody is told.
+fn main(rt: HostRuntime) {
+    if let Err(failure) = answer(&mut rt.stdin(), &mut rt.stdout()) {
+        let _ = eprintln!(rt; "page: {failure}");
     }
 }

@@ -1,47 +1,47 @@
-// Prints the digests of FIPS 180-4's example messages, of messages around the edges of the padding, and of a message with
-// one octet taken as 0. The expected lines, `stdout`, were written by another implementation.
+// Prints the digests of FIPS 180-4's example messages, of messages around the edges of the padding,
+// and of a message with one octet taken as 0. The expected lines, `stdout`, were written by another
+// implementation.
 #![tactic(auto)]
 
 ghost use Rattle.std.specs.Prelude.{◌≡◌, length};
 
 use sha256::{digest, digest_with_zero_at, short_digest_with_zero_at};
+use std::io;
 
-fn print_octet(x: u8) {
-    io::print_hex(1, x as u64, 2);
+fn print_octet(rt: &impl Print, x: u8) -> io::Result<()> {
+    print!(rt; "{x:02x}")
 }
 
-fn end_line() {
-    io::write_all(1, b"\n");
+fn end_line(rt: &impl Print) -> io::Result<()> {
+    println!(rt)
 }
 
-fn print_octets(s: &[u8]) {
-    for i in 0..s.len() {
-        print_octet(s[i]);
+fn print_octets(rt: &impl Print, s: &[u8]) -> io::Result<()> {
+    for x in s {
+        print_octet(rt, *x)?;
     }
-    end_line();
+    end_line(rt)
 }
 
 // What was hashed, and its digest.
-fn named(name: &[u8], d: [u8; 32]) {
-    io::write_all(1, name);
-    io::write_all(1, b": ");
-    print_octets(&d);
+fn named(rt: &impl Print, name: &[u8], d: [u8; 32]) -> io::Result<()> {
+    rt.write_all(name)?;
+    print!(rt; ": ")?;
+    print_octets(rt, &d)
 }
 
 // The digest of so many octets.
-fn counted(s: &[u8]) {
-    io::print_decimal(1, s.len() as u64);
-    named(b" octets", digest(s));
+fn counted(rt: &impl Print, s: &[u8]) -> io::Result<()> {
+    print!(rt; "{}", s.len())?;
+    named(rt, b" octets", digest(s))
 }
 
 // The digest with the octet at a place taken as 0, and its last eight octets.
-fn zeroed(s: &[u8], place: usize) {
-    io::print_decimal(1, s.len() as u64);
-    io::write_all(1, b" octets, 0 at ");
-    io::print_decimal(1, place as u64);
-    named(b"", digest_with_zero_at(s, place));
-    io::write_all(1, b"its last eight: ");
-    print_octets(&short_digest_with_zero_at(s, place));
+fn zeroed(rt: &impl Print, s: &[u8], place: usize) -> io::Result<()> {
+    print!(rt; "{} octets, 0 at {place}", s.len())?;
+    named(rt, b"", digest_with_zero_at(s, place))?;
+    print!(rt; "its last eight: ")?;
+    print_octets(rt, &short_digest_with_zero_at(s, place))
 }
 
 // The array's length as a fact, so that no proof computes the array.
@@ -51,44 +51,47 @@ fn million_a() -> [u8; 1_000_000]
     [b'a'; 1_000_000]
 }
 
-fn million() {
+fn million(rt: &impl Print) -> io::Result<()> {
     let a = million_a();
-    counted(&a);
+    counted(rt, &a)
 }
 
-fn main() {
-    named(b"abc", digest(b"abc"));
-    named(b"empty", digest(b""));
+fn main(rt: HostRuntime) -> io::Result<()> {
+    named(&rt, b"abc", digest(b"abc"))?;
+    named(&rt, b"empty", digest(b""))?;
     named(
+        &rt,
         b"448 bits",
         digest(b"abcdbcdecdefdefgefghfghighijhijkijkljklmklmnlmnomnopnopq"),
-    );
+    )?;
     named(
+        &rt,
         b"896 bits",
         digest(
-            b"abcdefghbcdefghicdefghijdefghijkefghijklfghijklmghijklmnhijklmnoijklmnopjklmnopqklmnopqrlmnopqrsmnopqrstnopqrstu",
+            b"abcdefghbcdefghicdefghijdefghijkefghijklfghijklmghijklmnhijklmnoijklmnopjklmnop\
+              qklmnopqrlmnopqrsmnopqrstnopqrstu",
         ),
-    );
+    )?;
     let a = [b'a'; 200];
-    counted(&a[..55]);
-    counted(&a[..56]);
-    counted(&a[..57]);
-    counted(&a[..63]);
-    counted(&a[..64]);
-    counted(&a[..65]);
-    counted(&a[..111]);
-    counted(&a[..112]);
-    counted(&a[..119]);
-    counted(&a[..120]);
-    counted(&a[..127]);
-    counted(&a[..128]);
-    zeroed(&a, 0);
-    zeroed(&a, 63);
-    zeroed(&a, 64);
-    zeroed(&a, 191);
-    zeroed(&a, 192);
-    zeroed(&a, 199);
-    zeroed(&a, 200);
-    counted(&a);
-    million();
+    counted(&rt, &a[..55])?;
+    counted(&rt, &a[..56])?;
+    counted(&rt, &a[..57])?;
+    counted(&rt, &a[..63])?;
+    counted(&rt, &a[..64])?;
+    counted(&rt, &a[..65])?;
+    counted(&rt, &a[..111])?;
+    counted(&rt, &a[..112])?;
+    counted(&rt, &a[..119])?;
+    counted(&rt, &a[..120])?;
+    counted(&rt, &a[..127])?;
+    counted(&rt, &a[..128])?;
+    zeroed(&rt, &a, 0)?;
+    zeroed(&rt, &a, 63)?;
+    zeroed(&rt, &a, 64)?;
+    zeroed(&rt, &a, 191)?;
+    zeroed(&rt, &a, 192)?;
+    zeroed(&rt, &a, 199)?;
+    zeroed(&rt, &a, 200)?;
+    counted(&rt, &a)?;
+    million(&rt)
 }

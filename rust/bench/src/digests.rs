@@ -15,8 +15,7 @@ const LENGTH: usize = 32;
 const SETS: [(usize, usize); 4] = [(65_536, 10), (1_024, 100), (257, 100), (64, 100)];
 
 const NOT_LINKED: &str = "\
-No SHA-256 rows: for them, run `rt staticlib sha256_c` in the repository's root
-and build again.
+No SHA-256 rows: for them, run `rt lib` in crates/sha256_c and build again.
 ";
 
 /// The messages, the same ones for a seed; none if there is nothing to time.

@@ -33,8 +33,8 @@ table; of more than a thousand inputs each thousand is timed apart. It stops
 before that if their answers differ. The library is asked through its C
 functions, and its buffer is not cleared between calls; a row that says bindings
 times the safe bindings over them. Stores that a call changes are restored
-outside the timed part. SHA-256 is timed if `rt staticlib sha256_c` was run
-before this was built, validity and records if `rt staticlib store_c` was.
+outside the timed part. SHA-256 is timed if `rt lib` was run in crates/sha256_c
+before this was built, validity and records if it was in crates/store_c.
 --version prints the library's version, --help this.
 ";
 const ROUNDS: usize = 300;

@@ -13,8 +13,8 @@ use crate::set::Set;
 use crate::store_set;
 
 const NOT_LINKED: &str = "\
-No rows for validity and for records: for them, run `rt staticlib store_c` in
-the repository's root and build again.
+No rows for validity and for records: for them, run `rt lib` in crates/store_c
+and build again.
 ";
 
 /// An operation on a set, by both sides.

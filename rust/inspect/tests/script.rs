@@ -26,7 +26,8 @@ impl Place {
         let _ = fs::remove_dir_all(&root); // what an earlier run left
         let (tools, programs) = (root.join("tools"), root.join("rust/target/release"));
         let (include, examples) = (root.join("include"), root.join("examples"));
-        for folder in [&tools, &programs, &include, &examples] {
+        let (library, page) = (root.join("crates/nattveldi_c"), root.join("crates/page"));
+        for folder in [&tools, &programs, &include, &examples, &library, &page] {
             fs::create_dir_all(folder).expect("a folder");
         }
         let origin = Path::new(env!("CARGO_MANIFEST_DIR")).join("../..");
@@ -125,22 +126,29 @@ fn archives() {
     // An empty name is not the example's.
     let (_, out, _) = place.run(&[""], &[("NATTVELDI_LIB_DIR", "/x")]);
     assert_eq!(out, "certificate \n");
-    place.tool("rt", "echo rt: \"$@\"");
+    // It says where it is run.
+    place.tool("rt", "echo rt: \"${PWD#\"${0%/tools/rt}\"/}\" \"$@\"");
     // An empty variable names no folder.
     let (_, _, err) = place.run(&[], &[("NATTVELDI_LIB_DIR", "")]);
-    assert!(err.ends_with("\nrt: staticlib nattveldi_c\n"), "{err}");
+    assert!(
+        err.ends_with("\nrt: crates/nattveldi_c lib --cpu x86-64\n"),
+        "{err}"
+    );
     for option in ["--input-hex", "--hex"] {
         let (status, out, err) = place.run(&["-", option], &[]);
         let said = format!("certificate - {option}\n");
         assert_eq!((status, out), (0, said));
-        assert!(err.ends_with("\nrt: staticlib nattveldi_c\n"), "{err}");
+        assert!(
+            err.ends_with("\nrt: crates/nattveldi_c lib --cpu x86-64\n"),
+            "{err}"
+        );
     }
     let asked = format!("nattveldi = {}", nattveldi::VERSION);
     place.tool("pkg-config", &format!("[ \"$2\" = '{asked}' ]"));
     assert_eq!(place.run(&[], &[]), (0, default.to_string(), String::new()));
     fs::remove_file(place.tools.join("pkg-config")).expect("a tool");
-    let folder = place.root.join("target/staticlib");
-    fs::create_dir_all(&folder).expect("a folder");
+    let folder = place.root.join("crates/nattveldi_c/out");
+    fs::create_dir(&folder).expect("a folder");
     fs::write(folder.join("libnattveldi_c.a"), "").expect("an archive");
     assert_eq!(place.run(&[], &[]), (0, default.to_string(), String::new()));
 }
@@ -183,11 +191,15 @@ fn progress_alone_is_shown() {
 #[test]
 fn a_page() {
     let place = without_archive("page");
-    let program = place.root.join("target/bin/page");
-    fs::create_dir_all(program.parent().unwrap()).expect("a folder");
+    let program = place.root.join("crates/page/out/page");
+    fs::create_dir(program.parent().unwrap()).expect("a folder");
     script(&program, "echo a page");
     fs::set_permissions(&program, fs::Permissions::from_mode(0o644)).expect("a mode");
-    place.tool("rt", &format!("{SAYING}\nchmod +x target/bin/page"));
+    // What the program prints on the way is no progress, and it gets no input.
+    place.tool(
+        "rt",
+        &format!("[ \"$*\" = run ] && ! read -r _ && {SAYING}\necho refused 1\nchmod +x out/page"),
+    );
     let (status, out, err) = place.run_script("page-example", &[], &[]);
     assert_eq!((status, &out[..]), (0, "a page\n"));
     assert!(err.ends_with(&format!(" minutes\n{PROGRESS}")), "{err}");
@@ -196,7 +208,7 @@ fn a_page() {
     // As the program ends if it cannot read.
     script(&program, "exit 0");
     let (status, out, err) = place.run_script("page-example", &[], &[]);
-    let said = "page-example: target/bin/page printed nothing\n";
+    let said = "page-example: crates/page/out/page printed nothing\n";
     assert_eq!((status, &out[..], &err[..]), (1, "", said));
 }
 

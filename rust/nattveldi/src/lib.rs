@@ -42,12 +42,12 @@
 //! In the other examples, `sample` makes certificates, messages and a store; it
 //! is `tests/sample/mod.rs` of this crate.
 //!
-//! The archive is made by `rt staticlib nattveldi_c` in the repository's root.
-//! The build looks for it in the folder that the environment variable
-//! `NATTVELDI_LIB_DIR` names or, without that, in `target/staticlib` there, and
-//! then where pkg-config knows an installed one of the same version. Without it
-//! the crate is checked and documented all the same, and a warning says what to
-//! run; a program that uses it is not linked. The crate can be copied out of the
+//! The archive is made by `make archive` in the repository's root. The build
+//! looks for it in the folder that the environment variable `NATTVELDI_LIB_DIR`
+//! names or, without that, in `crates/nattveldi_c/out` there, and then where
+//! pkg-config knows an installed one of the same version. Without it the crate
+//! is checked and documented all the same, and a warning says what to run; a
+//! program that uses it is not linked. The crate can be copied out of the
 //! repository; tests that compare it with the header and the documents cannot.
 //!
 //! The feature `std`, a default, has the conversions between [`Microseconds`] or

@@ -8,7 +8,7 @@ use std::process::Command;
 
 const ADVICE: [&str; 3] = [
     "the proved library is missing, so nothing can be linked: there is no libnattveldi_c.a",
-    "run `rt staticlib nattveldi_c` in a clone of Nattveldi to prove it and make the archive, or",
+    "run `make archive` in a clone of Nattveldi to prove it and make the archive, or",
     "name the folder of an archive in NATTVELDI_LIB_DIR, or install version",
 ];
 

@@ -1,6 +1,5 @@
 -- The permissions that count. Assumes nothing.
 use mathlib.Core.Path.{ap, ◌∙◌}
-use borrow.Author.Rules.{rules}
 use Rattle.scope.specs.Issued.{is_listed}
 use Rattle.scope.proofs.allows.Goals as goal
 

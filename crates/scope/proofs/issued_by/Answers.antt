@@ -1,7 +1,6 @@
 -- `scope::issued_by` meets its contract: a return for each row.
 -- Assumes nothing.
-use borrow.Author.Rules.{rules}
-use borrow.Author.Tests.{eq-eqb, ne_eqb, not-true, not-false}
+use borrow.Author.Tests.{eq-eqb, ne_eqb}
 use mathlib.Core.Path.{sym, ◌∙◌}
 use Rattle.order.specs.Steps.{first_of}
 use Rattle.scope.specs.Issued.{issued_number}

@@ -1,6 +1,5 @@
 -- `scope::permitted` meets its contract.
 -- Assumes nothing.
-use borrow.Author.Rules.{rules}
 use Rattle.scope.proofs.permitted.Goals as goal
 
 pub returns : goal.returns

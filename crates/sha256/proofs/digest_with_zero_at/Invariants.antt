@@ -1,10 +1,7 @@
 -- `sha256::digest_with_zero_at` meets its contract. The loop keeps the hash value after i blocks.
 -- Assumes nothing.
-use Rattle.std.proofs.Common.{◌≡◌, ℕ, suc, ◌+◌, ◌-◌, ◌*◌, ◌/◌, ◌≤◌, List, length, take, drop, set, sym, ap, ◌∙◌, add-one, arith, length-set, rules}
-use Rattle.sha256.specs.declared.rounds.Working.{Working}
-use Rattle.sha256.specs.Block.{compress_of}
-use Rattle.sha256.specs.Hash.{padded, hash_at, digest_of, sha256}
-use Rattle.sha256.proofs.Padding.{padded_length}
+use Rattle.std.proofs.Common.{◌≡◌, ◌-◌, ◌≤◌, set}
+use Rattle.sha256.specs.Hash.{padded, hash_at}
 use Rattle.sha256.proofs.digest_with_zero_at.Given as goal
 
 abbrev pub invariant-loop-i : goal.invariant-loop-i

@@ -1,6 +1,6 @@
 -- `sha256::short_digest_with_zero_at` meets its contract.
 -- Assumes nothing.
-use Rattle.std.proofs.Common.{ℕ, List, [], ◌∷◌, get_or, ap, rules}
+use Rattle.std.proofs.Common.{ℕ, List, [], ◌∷◌, get_or, ap}
 use Rattle.sha256.specs.Hash.{sha256}
 use Rattle.sha256.proofs.short_digest_with_zero_at.Goals as goal
 

@@ -1,6 +1,6 @@
 -- `sha256::step` meets its contract: a block is read where it stands, or copied.
 -- Assumes nothing.
-use Rattle.std.proofs.Common.{◌≡◌, ℕ, ◌+◌, ◌-◌, ◌*◌, ◌<◌, ◌≤◌, List, length, take, drop, set, ap, ◌∙◌, arith, rules}
+use Rattle.std.proofs.Common.{◌≡◌, ℕ, ◌+◌, ◌-◌, ◌*◌, ◌<◌, ◌≤◌, List, length, take, drop, set, ap, ◌∙◌, arith}
 use Rattle.sha256.specs.Hash.{padded}
 use Rattle.sha256.specs.Block.{compress_of}
 use Rattle.sha256.proofs.Padding.{whole_block}

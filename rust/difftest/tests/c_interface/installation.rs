@@ -21,9 +21,9 @@ fn place(test: &str) -> PathBuf {
 /// What a repository has when everything is built. The programs and the man
 /// pages have stand-ins.
 const BUILT: [&str; 6] = [
-    "target/staticlib/libnattveldi_c.a",
+    "crates/nattveldi_c/out/libnattveldi_c.a",
     "rust/target/release/nattveldi-inspect",
-    "target/bin/page",
+    "crates/page/out/page",
     "man/nattveldi.3",
     "man/nattveldi-inspect.1",
     "man/page.1",
@@ -277,9 +277,9 @@ fn writes_nothing_if_something_is_missing() {
     let words = ["--prefix", &prefix.to_string_lossy()];
     let shown = repository.display();
     let advice = [
-        format!("Run `rt staticlib nattveldi_c` in {shown} first: it proves the library and writes the archive.\n"),
+        format!("Run `make archive` in {shown} first: it proves the library and writes the archive.\n"),
         format!("Run `cargo build --release --offline --package nattveldi-inspect` in {shown}/rust first,\nor leave the programs out with --without-programs.\n"),
-        format!("Run `rt check page` in {shown} first,\nor leave the programs out with --without-programs.\n"),
+        format!("Run `./page-example` in {shown} first,\nor leave the programs out with --without-programs.\n"),
         String::new(),
         String::new(),
         String::new(),

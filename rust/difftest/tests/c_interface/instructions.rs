@@ -17,16 +17,15 @@ fn commands(name: &str) -> String {
     lines.collect::<Vec<&str>>().join("\n")
 }
 
-/// A folder that looks like the repository's root after
-/// `rt staticlib nattveldi_c`.
+/// A folder that looks like the repository's root after `make archive`.
 fn place(name: &str) -> PathBuf {
     let place = target(&format!("instructions-{name}"));
     let _ = fs::remove_dir_all(&place); // what an earlier run left
-    fs::create_dir_all(place.join("target/staticlib")).expect("a folder");
+    fs::create_dir_all(place.join("crates/nattveldi_c/out")).expect("a folder");
     for folder in ["include", "examples"] {
         symlink(root().join(folder), place.join(folder)).expect("a link");
     }
-    let linked = place.join("target/staticlib/libnattveldi_c.a");
+    let linked = place.join("crates/nattveldi_c/out/libnattveldi_c.a");
     symlink(archive(), linked).expect("a link");
     place
 }

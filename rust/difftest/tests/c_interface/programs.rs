@@ -38,7 +38,7 @@ pub fn root() -> PathBuf {
 pub fn archive() -> PathBuf {
     let named = env::var_os("NATTVELDI_LIB_DIR").filter(|folder| !folder.is_empty());
     named
-        .map_or_else(|| root().join("target/staticlib"), PathBuf::from)
+        .map_or_else(|| root().join("crates/nattveldi_c/out"), PathBuf::from)
         .join("libnattveldi_c.a")
 }
 

@@ -47,7 +47,7 @@ record_from-r-requires c = wholly_outlined _ _ _ (was outline_of c.whole_outline
 
 pub place-requires : goal.place-requires
 place-requires c = let o : Octets c.args.octets.now = λ i. omega (arith, c.type_inv.octets i) in
-    let f = facts _ _ o (outlined_standing _ _ o (record_from-r-requires (goal.at.place-requires c).Else-not-takes _)) in
+    let f = facts _ _ o (outlined_standing _ _ o (wholly_outlined _ _ _ (was outline_of c.whole_outline-read.ensures c.in-Value.is))) in
     (c.if-store-ne-STORE_LENGTH.false, subst InRange (sym c.record_from-r.ensures) f.in_range_lem)
 
 pub returns : goal.returns

@@ -3,10 +3,8 @@ use Rattle.attributes.specs.Assurances.{assurance_at}
 use Rattle.octets.proofs.Inside.{announced_inside}
 use Rattle.octets.proofs.Laws.{then, stop, was, chosen, passed}
 use Rattle.octets.specs.Numbers.{octet_of}
-use borrow.Author.Tests.{not-true, not-false}
 use mathlib.Core.Path.{sym, ◌∙◌}
 use native.Mathlib.Omega.{arith}
-use borrow.Author.Rules.{rules}
 use Rattle.attributes.proofs.assurances.assurance_at.Goals as goal
 
 pub returns-then-not-announced : goal.returns-then-not-announced

@@ -2,10 +2,8 @@
 use Rattle.attributes.specs.Keys.{encryption_key_at}
 use Rattle.octets.proofs.Inside.{announced_inside}
 use Rattle.octets.proofs.Laws.{then, stop, was_out, chosen, passed}
-use borrow.Author.Tests.{not-true, not-false}
 use mathlib.Core.Path.{sym, ◌∙◌}
 use native.Mathlib.Omega.{arith}
-use borrow.Author.Rules.{rules}
 use Rattle.attributes.proofs.keys.encryption_key_at.Goals as goal
 
 pub returns-then-not-announced : goal.returns-then-not-announced

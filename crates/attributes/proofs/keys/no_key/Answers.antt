@@ -1,5 +1,4 @@
 -- `attributes::keys::no_key` meets its contract. Assumes nothing.
-use borrow.Author.Rules.{rules}
 use Rattle.attributes.proofs.keys.no_key.Goals as goal
 
 pub returns : goal.returns

@@ -1,13 +1,12 @@
 -- The invariant: some permissions are read, and what is left to read decides. Assumes nothing.
-use Prim.Native.Nat.{ℕ, ◌-◌}
+use Prim.Native.Nat.{ℕ}
 use Rattle.attributes.specs.Permissions.{unused, permission_of, permission_at}
 use Rattle.attributes.specs.declared.permissions.Permission.{Permission}
 use Rattle.octets.proofs.Laws.{was}
-use Rattle.octets.proofs.Turns.{Reading, begin, again, full, stopped, done}
+use Rattle.octets.proofs.Turns.{begin, again, full, stopped, done}
 use Rattle.octets.specs.Items.{overfull_of}
 use Rattle.octets.specs.Numbers.{intx_at}
 use Rattle.octets.specs.Reading.{Out, refused, kept}
-use borrow.Author.Rules.{rules}
 use mathlib.Core.List.{List}
 use mathlib.Core.Path.{sym, ◌∙◌, ap}
 use native.Mathlib.Omega.{arith}

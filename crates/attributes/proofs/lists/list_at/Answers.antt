@@ -4,12 +4,10 @@ use Rattle.octets.proofs.Inside.{announced_inside, span_inside}
 use Rattle.octets.proofs.Kept.{kept_got, kept_refused}
 use Rattle.octets.proofs.Laws.{was, then, stop, chosen, passed, refused_by}
 use Rattle.octets.specs.Vectors.{span_of, place_of}
-use borrow.Author.Tests.{not-true, not-false}
 use lib.ListN.{take}
 use lib.Seq.{length-take-le}
 use mathlib.Core.Path.{sym, ◌∙◌}
 use native.Mathlib.Omega.{arith}
-use borrow.Author.Rules.{rules}
 use Rattle.attributes.proofs.lists.list_at.Goals as goal
 
 pub returns-then-not-announced : goal.returns-then-not-announced

@@ -1,13 +1,11 @@
 -- The invariant is `Reading`; what can be read has room and is not refused. Assumes nothing.
-use Prim.Native.Nat.{◌-◌}
 use Rattle.attributes.specs.Permissions.{unused, permission_of, permission_at}
 use Rattle.attributes.specs.Outlines.{placed}
 use Rattle.attributes.specs.declared.permissions.Permission.{Permission}
 use Rattle.octets.proofs.Laws.{was, clash}
-use Rattle.octets.proofs.Turns.{Reading, begin, again, stopped, done, fits, counted, filled}
+use Rattle.octets.proofs.Turns.{begin, again, stopped, done, fits, counted, filled}
 use Rattle.octets.specs.Numbers.{intx_at}
 use Rattle.octets.specs.Reading.{Out, value_or}
-use borrow.Author.Rules.{rules}
 use mathlib.Core.List.{List, []}
 use mathlib.Core.Path.{sym, ◌∙◌, ap}
 use native.Mathlib.Omega.{arith}

@@ -1,6 +1,5 @@
 -- `attributes::permissions::no_permissions` meets its contract. Assumes nothing.
 use Rattle.attributes.specs.Permissions.{none}
-use borrow.Author.Rules.{rules}
 use Rattle.attributes.proofs.permissions.no_permissions.Goals as goal
 
 pub returns : goal.returns

@@ -3,7 +3,6 @@ use Rattle.attributes.specs.Permissions.{permission_at}
 use Rattle.octets.proofs.Laws.{then, stop, was, chosen, passed}
 use Rattle.octets.specs.Numbers.{number_of}
 use mathlib.Core.Path.{sym, ◌∙◌}
-use borrow.Author.Rules.{rules}
 use Rattle.attributes.proofs.permissions.permission_at.Goals as goal
 
 pub returns-then-ssp : goal.returns-then-ssp

@@ -5,7 +5,6 @@ use Rattle.octets.proofs.Laws.{then, stop, was, pass, fail}
 use Rattle.octets.specs.Vectors.{span_of}
 use borrow.Author.Tests.{le-leb, lt-leb}
 use mathlib.Core.Path.{sym, ◌∙◌}
-use borrow.Author.Rules.{rules}
 use Rattle.attributes.proofs.permissions.ssp_at.Goals as goal
 
 pub overflow_sub-length : goal.overflow_sub-length

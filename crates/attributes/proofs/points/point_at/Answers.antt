@@ -4,7 +4,6 @@ use Rattle.octets.proofs.Laws.{then, stop, was, pass, fail}
 use Rattle.octets.specs.Numbers.{octet_of}
 use Rattle.octets.specs.Vectors.{span_of}
 use mathlib.Core.Path.{sym, ◌∙◌}
-use borrow.Author.Rules.{rules}
 use Rattle.attributes.proofs.points.point_at.Goals as goal
 
 pub returns-in-Refused : goal.returns-in-Refused

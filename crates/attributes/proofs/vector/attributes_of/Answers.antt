@@ -2,7 +2,6 @@
 use Rattle.attributes.specs.Outlines.{permissions_from}
 use lib.Seq.{length-take-le}
 use mathlib.Core.Path.{sym}
-use borrow.Author.Rules.{rules}
 use Rattle.attributes.proofs.vector.attributes_of.Goals as goal
 
 pub slice_bounds-permissions_in-end : goal.slice_bounds-permissions_in-end

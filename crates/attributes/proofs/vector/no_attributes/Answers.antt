@@ -1,6 +1,5 @@
 -- `attributes::vector::no_attributes` meets its contract. Assumes nothing.
 use Rattle.attributes.specs.Vector.{unknown}
-use borrow.Author.Rules.{rules}
 use Rattle.attributes.proofs.vector.no_attributes.Goals as goal
 
 pub returns : goal.returns

@@ -7,7 +7,6 @@ use Rattle.octets.proofs.Laws.{was, then, stop, pass, fail, refused_by, Left}
 use Rattle.octets.specs.Reading.{refused}
 use borrow.Author.Tests.{le-leb, lt-leb}
 use mathlib.Core.Path.{sym, ◌∙◌, ap}
-use borrow.Author.Rules.{rules}
 use Rattle.attributes.proofs.vector.outline_in.Goals as goal
 use Rattle.attributes.proofs.vector.outline_in.Goals.{In-Value, In-Value-fourth, In-Value-second, In-Value-third}
 

@@ -1,11 +1,8 @@
 -- `bitfields::arrays::get_octets` meets its contract. The loop's invariant: the first i places hold the first i fields. Assumes nothing.
 use Prim.Native.Nat.{◌≤◌, ◌-◌}
-use mathlib.Core.Path.{◌≡◌, refl}
-use native.Mathlib.Omega.{arith}
-use borrow.Author.Rules.{rules}
-use lib.ListN.{length, take, length-set}
+use mathlib.Core.Path.{◌≡◌}
+use lib.ListN.{length, take}
 use Rattle.bitfields.specs.Runs.{fields_of}
-use Rattle.bitfields.proofs.Runs.{read_more, read_done}
 use Rattle.bitfields.proofs.arrays.get_octets.Given as goal
 
 abbrev pub invariant-loop-i : goal.invariant-loop-i

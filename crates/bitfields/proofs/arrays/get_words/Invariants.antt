@@ -1,14 +1,8 @@
 -- `bitfields::arrays::get_words` meets its contract. The loop's invariant: the first i places hold the first i fields. Assumes nothing.
-use Prim.Native.Nat.{ℕ, ◌≤◌, ◌-◌, ◌+◌, ◌*◌, ◌^◌}
-use mathlib.Core.Path.{◌≡◌, refl, ap, ◌∙◌}
-use native.Mathlib.Omega.{arith}
-use native.Mathlib.Nat.{mul-zero, mul-suc, mul-le-mul_left, mul-le-mul_right}
-use native.Mathlib.Numerals.{add-one}
-use borrow.Author.Rules.{rules}
-use lib.ListN.{length, take, length-set}
-use Rattle.bitfields.specs.Field.{field}
+use Prim.Native.Nat.{◌≤◌, ◌-◌, ◌+◌, ◌*◌}
+use mathlib.Core.Path.{◌≡◌}
+use lib.ListN.{length, take}
 use Rattle.bitfields.specs.Runs.{fields_of}
-use Rattle.bitfields.proofs.Runs.{read_more, read_done}
 use Rattle.bitfields.proofs.arrays.get_words.Given as goal
 
 abbrev pub invariant-loop-i : goal.invariant-loop-i

@@ -1,14 +1,8 @@
 -- `bitfields::arrays::put_octets` meets its contract. The loop's invariant: the octets from i on, written to s, give the result. Assumes nothing.
-use Prim.Native.Nat.{ℕ, ◌≤◌, ◌-◌, ◌+◌, ◌*◌}
-use mathlib.Core.Path.{◌≡◌, refl, sym, ap, ap₂, ◌∙◌}
-use mathlib.Core.List.{List}
-use native.Mathlib.Omega.{arith}
-use native.Mathlib.Nat.{add-zero}
-use borrow.Author.Rules.{rules}
+use Prim.Native.Nat.{◌≤◌, ◌-◌, ◌+◌, ◌*◌}
+use mathlib.Core.Path.{◌≡◌}
 use lib.ListN.{length, drop}
-use Rattle.bitfields.specs.Field.{with_field}
 use Rattle.bitfields.specs.Runs.{with_fields}
-use Rattle.bitfields.proofs.Runs.{run_more, run_done}
 use Rattle.bitfields.proofs.arrays.put_octets.Given as goal
 
 abbrev pub invariant-loop-i : goal.invariant-loop-i

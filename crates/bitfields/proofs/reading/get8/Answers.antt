@@ -2,7 +2,6 @@
 use native.Mathlib.Omega.{arith}
 use lib.Pow.{pow_mono}
 use Rattle.bitfields.proofs.Law.{field_lt}
-use borrow.Author.Rules.{rules}
 use Rattle.bitfields.proofs.reading.get8.Goals as goal
 
 pub overflow_cast-result : goal.overflow_cast-result

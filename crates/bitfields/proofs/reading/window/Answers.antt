@@ -1,7 +1,6 @@
 -- `bitfields::reading::window` meets its contract. Assumes nothing.
 use mathlib.Core.Path.{ap, ◌∙◌}
 use native.Mathlib.Omega.{arith}
-use borrow.Author.Rules.{rules}
 use Rattle.bitfields.specs.Words.{swapped_of}
 use Rattle.bitfields.proofs.Swap.{swap_word}
 use Rattle.bitfields.proofs.reading.window.Goals as goal

@@ -1,13 +1,8 @@
 -- `bitfields::writing::gather` meets its contract. The loop's invariant: acc is the number of the octets before i. Assumes nothing.
-use Prim.Native.Nat.{ℕ, ◌≤◌, ◌<◌, ◌-◌, ◌+◌, ◌*◌, ◌^◌, ◌%◌}
-use mathlib.Core.List.{List}
-use native.Mathlib.Nat.{sub_self}
-use mathlib.Core.Path.{◌≡◌, refl, sym, ap, ◌∙◌, subst⁻¹}
-use native.Mathlib.Omega.{arith}
-use borrow.Author.Rules.{rules}
-use lib.ListN.{get_or, take, drop}
-use Rattle.bitfields.specs.Field.{number, Octets}
-use Rattle.bitfields.proofs.Octets.{number_part, number_more}
+use Prim.Native.Nat.{◌≤◌, ◌-◌}
+use mathlib.Core.Path.{◌≡◌}
+use lib.ListN.{take, drop}
+use Rattle.bitfields.specs.Field.{number}
 use Rattle.bitfields.proofs.writing.gather.Given as goal
 
 abbrev pub invariant-loop-i : goal.invariant-loop-i

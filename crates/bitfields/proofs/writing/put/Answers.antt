@@ -8,7 +8,6 @@ use lib.Bits.{bit_and}
 use Rattle.bitfields.specs.Field.{octets, with_digits}
 use Rattle.bitfields.proofs.Law.{with_field_scatter}
 use Rattle.bitfields.proofs.Word.{one_shl_pos, word_with, word_fits}
-use borrow.Author.Rules.{rules}
 use Rattle.bitfields.proofs.writing.put.Goals as goal
 use Rattle.bitfields.proofs.writing.put.Goals.{After-gather-acc, Start}
 

@@ -1,11 +1,11 @@
 -- `bitfields::writing::scatter` meets its contract. The loop's invariant: the octets from i on are written. Assumes nothing.
-use Prim.Native.Nat.{ℕ, ◌≤◌, ◌-◌, ◌+◌, ◌*◌, ◌^◌, ◌%◌, ◌/◌}
+use Prim.Native.Nat.{ℕ, ◌-◌, ◌+◌, ◌*◌, ◌^◌, ◌%◌, ◌/◌}
 use mathlib.Core.Path.{◌≡◌, refl, sym, ap, ap₂, ◌∙◌}
 use mathlib.Core.List.{List}
 use native.Mathlib.Omega.{arith}
 use native.Mathlib.Nat.{sub_self, div-one}
 use borrow.Author.Rules.{rules}
-use lib.ListN.{length, set, length-set}
+use lib.ListN.{set, length-set}
 use lib.Bits.{and_mask, mask_lt}
 use lib.Pow.{shr-shr}
 use Rattle.bitfields.proofs.Octets.{scattered, scattered_none, scattered_more}

@@ -1,14 +1,8 @@
 -- `bitfields::writing::scatter` meets its contract. The loop's invariant: the octets from i on are written. Assumes nothing.
-use Prim.Native.Nat.{ℕ, ◌≤◌, ◌-◌, ◌+◌, ◌*◌, ◌^◌, ◌%◌, ◌/◌}
-use mathlib.Core.Path.{◌≡◌, refl, sym, ap, ap₂, ◌∙◌}
-use mathlib.Core.List.{List}
-use native.Mathlib.Omega.{arith}
-use native.Mathlib.Nat.{sub_self, div-one}
-use borrow.Author.Rules.{rules}
-use lib.ListN.{length, set, length-set}
-use lib.Bits.{and_mask, mask_lt}
-use lib.Pow.{shr-shr}
-use Rattle.bitfields.proofs.Octets.{scattered, scattered_none, scattered_more}
+use Prim.Native.Nat.{◌≤◌, ◌-◌, ◌*◌, ◌^◌, ◌/◌}
+use mathlib.Core.Path.{◌≡◌}
+use lib.ListN.{length}
+use Rattle.bitfields.proofs.Octets.{scattered}
 use Rattle.bitfields.proofs.writing.scatter.Given as goal
 
 abbrev pub invariant-loop-i : goal.invariant-loop-i

@@ -1,13 +1,7 @@
 -- `bitfields::zeros::octets_zero` meets its contract. The loop's invariant: zero says it of the octets before i. Assumes nothing.
-use Prim.Native.Nat.{ℕ, ◌≤◌, ◌-◌, ◌*◌}
-use mathlib.Core.Path.{◌≡◌, sym, ap, ◌∙◌}
-use mathlib.Core.Bool.{Bool, ◌&&◌}
-use native.Mathlib.Omega.{arith}
-use borrow.Author.Rules.{rules}
-use lib.ListN.{get_or}
-use lib.Dec.{eqb}
+use Prim.Native.Nat.{◌≤◌, ◌-◌, ◌*◌}
+use mathlib.Core.Path.{◌≡◌}
 use Rattle.bitfields.specs.Zero.{zero_bits}
-use Rattle.bitfields.proofs.Zero.{zero_none, zero_more}
 use Rattle.bitfields.proofs.zeros.octets_zero.Given as goal
 
 abbrev pub invariant-loop-i : goal.invariant-loop-i

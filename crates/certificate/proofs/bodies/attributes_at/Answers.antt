@@ -6,7 +6,6 @@ use Rattle.octets.proofs.Laws.{was, then, stop, refused_by}
 use Rattle.octets.specs.Vectors.{span_of}
 use lib.Seq.{length-take-le}
 use mathlib.Core.Path.{sym, ◌∙◌}
-use borrow.Author.Rules.{rules}
 use Rattle.certificate.proofs.bodies.attributes_at.Goals as goal
 
 pub returns-in_default : goal.returns-in_default

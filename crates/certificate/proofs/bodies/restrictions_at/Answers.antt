@@ -6,7 +6,6 @@ use Rattle.octets.specs.Vectors.{span_of}
 use borrow.Author.Tests.{not-true, not-false}
 use lib.Seq.{length-take-le}
 use mathlib.Core.Path.{sym, ◌∙◌}
-use borrow.Author.Rules.{rules}
 use Rattle.certificate.proofs.bodies.restrictions_at.Goals as goal
 
 pub returns-then-not-complete : goal.returns-then-not-complete

@@ -1,6 +1,5 @@
 -- `certificate::certificates::no_certificate` meets its contract. Assumes nothing.
 use Rattle.certificate.specs.Certificates.{blank}
-use borrow.Author.Rules.{rules}
 use Rattle.certificate.proofs.certificates.no_certificate.Goals as goal
 
 pub returns : goal.returns

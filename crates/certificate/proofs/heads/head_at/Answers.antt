@@ -5,7 +5,6 @@ use Rattle.octets.proofs.Laws.{then, stop, was, was_out, refused_by, Left}
 use Rattle.octets.specs.Numbers.{octet_of}
 use Rattle.octets.specs.Vectors.{place_of, span_of}
 use mathlib.Core.Path.{sym, ◌∙◌}
-use borrow.Author.Rules.{rules}
 use Rattle.certificate.proofs.heads.head_at.Goals as goal
 use Rattle.certificate.proofs.heads.head_at.Goals.{In-At, In-Value, In-Value-third}
 

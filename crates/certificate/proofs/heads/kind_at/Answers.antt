@@ -3,7 +3,6 @@ use Rattle.certificate.specs.Heads.{kind_at}
 use Rattle.octets.proofs.Laws.{then, stop, was, pass, fail}
 use Rattle.octets.specs.Numbers.{octet_of}
 use mathlib.Core.Path.{sym, ◌∙◌}
-use borrow.Author.Rules.{rules}
 use Rattle.certificate.proofs.heads.kind_at.Goals as goal
 
 pub returns-then-value-signer : goal.returns-then-value-signer

@@ -6,7 +6,6 @@ use Rattle.octets.specs.Numbers.{octet_of}
 use borrow.Author.Tests.{le-leb, lt-leb}
 use mathlib.Core.Path.{sym, ◌∙◌}
 use native.Mathlib.Omega.{arith}
-use borrow.Author.Rules.{rules}
 use Rattle.certificate.proofs.heads.name_at.Goals as goal
 
 pub overflow_sub-s : goal.overflow_sub-s

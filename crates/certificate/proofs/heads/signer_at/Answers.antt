@@ -5,7 +5,6 @@ use Rattle.octets.specs.Numbers.{octet_of}
 use Rattle.octets.specs.Vectors.{span_of}
 use borrow.Author.Tests.{eq-eqb, ne_eqb}
 use mathlib.Core.Path.{sym, ◌∙◌}
-use borrow.Author.Rules.{rules}
 use Rattle.certificate.proofs.heads.signer_at.Goals as goal
 
 pub returns-then-value-eq0 : goal.returns-then-value-eq0

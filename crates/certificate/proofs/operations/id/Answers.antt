@@ -8,7 +8,6 @@ use Rattle.octets.proofs.Laws.{was}
 use Rattle.octets.specs.Reading.{refusal_of, kept}
 use mathlib.Core.Path.{◌∙◌, ap}
 use native.Mathlib.Omega.{arith}
-use borrow.Author.Rules.{rules}
 use Rattle.certificate.proofs.operations.id.Goals as goal
 
 pub returns-in_default : goal.returns-in_default

@@ -6,7 +6,6 @@ use Rattle.certificate.specs.declared.outlines.OutlineRead.{OutlineRead}
 use Rattle.octets.proofs.Laws.{was}
 use Rattle.octets.specs.Reading.{refusal_of, kept}
 use mathlib.Core.Path.{◌∙◌, ap}
-use borrow.Author.Rules.{rules}
 use Rattle.certificate.proofs.operations.read.Goals as goal
 
 pub returns-in_default : goal.returns-in_default

@@ -3,7 +3,6 @@ use Rattle.certificate.specs.Outlines.{outline_of, whole_outline}
 use Rattle.octets.proofs.Laws.{was, then, stop, pass, fail, refused_by}
 use borrow.Author.Tests.{le-leb, lt-leb}
 use mathlib.Core.Path.{sym, ◌∙◌}
-use borrow.Author.Rules.{rules}
 use Rattle.certificate.proofs.operations.whole_outline.Goals as goal
 
 pub returns-then-s-gt1024 : goal.returns-then-s-gt1024

@@ -11,7 +11,6 @@ use Rattle.octets.specs.Reading.{kept}
 use Rattle.octets.specs.Vectors.{place_of}
 use mathlib.Core.Path.{sym, ◌∙◌, ap}
 use native.Mathlib.Omega.{arith}
-use borrow.Author.Rules.{rules}
 use Rattle.certificate.proofs.outlines.outline_at.Goals as goal
 use Rattle.certificate.proofs.outlines.outline_at.Goals.{In-At, In-Value, In-Value-second}
 

@@ -5,7 +5,6 @@ use Rattle.octets.proofs.Laws.{then, stop, was, was_out, pass, fail, refused_by,
 use Rattle.octets.specs.Vectors.{place_of, span_of}
 use borrow.Author.Tests.{not-true, not-false}
 use mathlib.Core.Path.{sym, ◌∙◌}
-use borrow.Author.Rules.{rules}
 use Rattle.certificate.proofs.signatures.signature_at.Goals as goal
 use Rattle.certificate.proofs.signatures.signature_at.Goals.{Else-not-complete, In-At, In-Value}
 

@@ -1,13 +1,12 @@
 -- `geo::searches::covered` meets its contract: what is left of the rectangles decides.
 -- Assumes nothing.
-use Prim.Native.Nat.{◌≤◌, ◌-◌}
+use Prim.Native.Nat.{◌≤◌}
 use mathlib.Core.Path.{◌≡◌, refl, sym, ◌∙◌}
 use borrow.Author.Rules.{rules}
 use lib.ListN.{length}
-use lib.Seq.{slice}
 use native.Mathlib.Omega.{arith}
 use Rattle.geo.proofs.Lists.{some_yes, some_no, some_end}
-use Rattle.geo.specs.Area.{covered_by, nested}
+use Rattle.geo.specs.Area.{nested}
 use Rattle.geo.proofs.searches.covered.Goals as goal
 use Rattle.geo.proofs.searches.covered.Goals.{Start}
 
@@ -23,12 +22,11 @@ returns-then-within c =
     ∙ c.loop-i.invariant.1
 
 pub loop-i-preserved : goal.loop-i-preserved
-loop-i-preserved c =
-    (
-      search rules,
-      sym (some_no (nested c.args.r) _ c.args.others c.loop-i.i c.args.n c.loop-i-test.true (long (goal.at.loop-i-preserved c).Start) (sym c.within.ensures ∙ c.if-within.false))
-          ∙ c.loop-i.invariant.1,
-    )
+loop-i-preserved c = (
+  search rules,
+  sym (some_no (nested c.args.r) _ c.args.others c.loop-i.i c.args.n c.loop-i-test.true (long (goal.at.loop-i-preserved c).Start) (sym c.within.ensures ∙ c.if-within.false))
+      ∙ c.loop-i.invariant.1,
+)
 
 pub returns : goal.returns
 returns c =

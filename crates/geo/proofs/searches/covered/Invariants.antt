@@ -1,13 +1,9 @@
 -- `geo::searches::covered` meets its contract: what is left of the rectangles decides.
 -- Assumes nothing.
 use Prim.Native.Nat.{◌≤◌, ◌-◌}
-use mathlib.Core.Path.{◌≡◌, refl, sym, ◌∙◌}
-use borrow.Author.Rules.{rules}
-use lib.ListN.{length}
+use mathlib.Core.Path.{◌≡◌}
 use lib.Seq.{slice}
-use native.Mathlib.Omega.{arith}
-use Rattle.geo.proofs.Lists.{some_yes, some_no, some_end}
-use Rattle.geo.specs.Area.{covered_by, nested}
+use Rattle.geo.specs.Area.{covered_by}
 use Rattle.geo.proofs.searches.covered.Given as goal
 
 abbrev pub invariant-loop-i : goal.invariant-loop-i

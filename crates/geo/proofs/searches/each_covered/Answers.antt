@@ -1,14 +1,12 @@
 -- `geo::searches::each_covered` meets its contract: what is left of the rectangles decides.
 -- Assumes nothing.
-use Prim.Native.Nat.{◌≤◌, ◌-◌}
+use Prim.Native.Nat.{◌≤◌}
 use mathlib.Core.Path.{◌≡◌, refl, sym, ◌∙◌}
 use borrow.Author.Rules.{rules}
-use borrow.Author.Tests.{not-true, not-false}
 use lib.ListN.{take, length}
-use lib.Seq.{slice}
 use native.Mathlib.Omega.{arith}
 use Rattle.geo.proofs.Lists.{each_yes, each_no, each_end}
-use Rattle.geo.specs.Area.{covered_by, each_covered}
+use Rattle.geo.specs.Area.{covered_by}
 use Rattle.geo.proofs.searches.each_covered.Goals as goal
 use Rattle.geo.proofs.searches.each_covered.Goals.{Start}
 

@@ -1,12 +1,11 @@
 -- `geo::searches::one_contains` meets its contract: what is left of the rectangles decides. The two signed numbers stand in the
 -- invariant as their bits. Assumes nothing.
-use Prim.Native.Nat.{◌≤◌, ◌-◌}
+use Prim.Native.Nat.{◌≤◌}
 use borrow.Author.Rules.{rules}
 use native.Mathlib.Omega.{arith}
 use mathlib.Core.Path.{◌≡◌, refl, sym, ◌∙◌}
 use mathlib.Core.Bool.{Bool}
 use lib.ListN.{length, take}
-use lib.Seq.{slice}
 use mir.Syntax.{w32}
 use mir.Val.{to_z, of_z}
 use mir.Facts.{to_z-of_z}

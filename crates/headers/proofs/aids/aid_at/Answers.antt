@@ -3,8 +3,6 @@ use Rattle.headers.specs.Aids.{aid_at}
 use Rattle.octets.proofs.Inside.{announced_inside}
 use Rattle.octets.proofs.Laws.{chosen, passed, stop, then, was}
 use Rattle.octets.specs.Numbers.{number_of}
-use borrow.Author.Rules.{rules}
-use borrow.Author.Tests.{not-false, not-true}
 use mathlib.Core.Path.{◌∙◌, sym}
 use native.Mathlib.Omega.{arith}
 use Rattle.headers.proofs.aids.aid_at.Goals as goal

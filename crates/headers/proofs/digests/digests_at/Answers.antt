@@ -3,8 +3,7 @@ use Rattle.headers.specs.Digests.{digests_at}
 use Rattle.octets.proofs.Inside.{announced_inside, span_inside}
 use Rattle.octets.proofs.Laws.{chosen, fail, pass, passed, stop, then, was}
 use Rattle.octets.specs.Vectors.{span_of}
-use borrow.Author.Rules.{rules}
-use borrow.Author.Tests.{eq-eqb, ne_eqb, not-false, not-true}
+use borrow.Author.Tests.{eq-eqb, ne_eqb}
 use mathlib.Core.Path.{◌∙◌, sym}
 use native.Mathlib.Omega.{arith}
 use Rattle.headers.proofs.digests.digests_at.Goals as goal

@@ -7,7 +7,6 @@ use Rattle.headers.specs.Times.{expiration_of, generation_of}
 use Rattle.octets.proofs.Laws.{Left, fail, pass, refused_by, stop, then, was}
 use Rattle.octets.specs.Reading.{refused}
 use Rattle.octets.specs.Vectors.{place_of}
-use borrow.Author.Rules.{rules}
 use borrow.Author.Tests.{le-leb, lt-leb}
 use mathlib.Core.Path.{◌∙◌, ap, sym}
 use Rattle.headers.proofs.fields.fields_in.Goals as goal

@@ -2,7 +2,6 @@
 use Rattle.headers.specs.Locations.{location_at}
 use Rattle.octets.proofs.Inside.{announced_inside}
 use Rattle.octets.proofs.Laws.{chosen, passed}
-use borrow.Author.Rules.{rules}
 use mathlib.Core.Path.{◌∙◌, sym}
 use native.Mathlib.Omega.{arith}
 use Rattle.headers.proofs.locations.location_at.Goals as goal

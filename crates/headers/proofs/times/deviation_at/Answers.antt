@@ -4,8 +4,6 @@ use Rattle.octets.proofs.Inside.{announced_inside}
 use Rattle.octets.proofs.Laws.{chosen, passed, stop, then, was}
 use Rattle.octets.specs.Numbers.{octet_of}
 use Rattle.octets.specs.Vectors.{span_of}
-use borrow.Author.Rules.{rules}
-use borrow.Author.Tests.{not-false, not-true}
 use mathlib.Core.Path.{◌∙◌, sym}
 use native.Mathlib.Omega.{arith}
 use Rattle.headers.proofs.times.deviation_at.Goals as goal

@@ -1,7 +1,6 @@
 -- `octets::buffers::write_front` meets its contract. Assumes nothing.
 use mathlib.Core.Path.{◌∙◌}
 use Rattle.octets.proofs.Buffered.{octets_front}
-use borrow.Author.Rules.{rules}
 use Rattle.octets.proofs.buffers.write_front.Goals as goal
 
 pub returns : goal.returns

@@ -1,8 +1,7 @@
 -- `octets::buffers::write_octets` meets its contract. The invariant: the first octets are copied. Assumes nothing.
-use Prim.Native.Nat.{◌+◌, ◌≤◌, ◌-◌}
+use Prim.Native.Nat.{◌+◌}
 use Rattle.octets.proofs.Pasted.{paste_next}
 use Rattle.octets.proofs.Buffered.{octets_pasted}
-use borrow.Author.Rules.{rules}
 use lib.ListN.{length, length-set}
 use lib.Seq.{paste, paste-zero}
 use mathlib.Core.Path.{◌≡◌, refl, ap, ◌∙◌}

@@ -1,12 +1,8 @@
 -- `octets::buffers::write_octets` meets its contract. The invariant: the first octets are copied. Assumes nothing.
-use Prim.Native.Nat.{◌+◌, ◌≤◌, ◌-◌}
-use Rattle.octets.proofs.Pasted.{paste_next}
-use Rattle.octets.proofs.Buffered.{octets_pasted}
-use borrow.Author.Rules.{rules}
-use lib.ListN.{length, length-set}
-use lib.Seq.{paste, paste-zero}
-use mathlib.Core.Path.{◌≡◌, refl, ap, ◌∙◌}
-use native.Mathlib.Omega.{arith}
+use Prim.Native.Nat.{◌≤◌, ◌-◌}
+use lib.ListN.{length}
+use lib.Seq.{paste}
+use mathlib.Core.Path.{◌≡◌}
 use Rattle.octets.proofs.buffers.write_octets.Given as goal
 
 abbrev pub invariant-loop-i : goal.invariant-loop-i

@@ -1,7 +1,6 @@
 -- `octets::coordinates::as_i32` meets its contract: with k = 2^32 - 1 - x, `-k - 1` is -(k + 1).
 -- Assumes nothing.
 use Prim.Native.Nat.{ℕ, ◌<◌, ◌-◌}
-use borrow.Author.Rules.{rules}
 use native.Mathlib.Omega.{arith}
 use mathlib.Core.Path.{sym, ◌∙◌}
 use lib.IntN.{pos, negsuc, neg_ℤ, +ℤ_idl, -ℤ_one}

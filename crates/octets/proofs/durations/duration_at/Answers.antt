@@ -6,7 +6,6 @@ use borrow.Author.Tests.{le-ltb, lt-ltb}
 use Prim.Native.Nat.{ℕ}
 use Rattle.octets.specs.Reading.{got}
 use mathlib.Core.Path.{sym, ◌∙◌, ap}
-use borrow.Author.Rules.{rules}
 use Rattle.octets.proofs.durations.duration_at.Goals as goal
 
 pub returns-then-unit-ge5 : goal.returns-then-unit-ge5

@@ -1,7 +1,6 @@
 -- `octets::durations::scaled` meets its contract. Assumes nothing.
 use borrow.Author.Tests.{eq-eqb, ne_eqb}
 use native.Mathlib.Nat.{mul-one}
-use borrow.Author.Rules.{rules}
 use Rattle.octets.proofs.durations.scaled.Goals as goal
 
 pub returns-then-unit-eq0 : goal.returns-then-unit-eq0

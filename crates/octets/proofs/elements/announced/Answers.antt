@@ -1,6 +1,5 @@
 -- `octets::elements::announced` meets its contract. Assumes nothing.
 use borrow.Author.Tests.{le-ltb, lt-ltb}
-use borrow.Author.Rules.{rules}
 use Rattle.octets.proofs.elements.announced.Goals as goal
 
 pub returns-then-s-at : goal.returns-then-s-at

@@ -4,7 +4,6 @@ use Rattle.octets.specs.Elements.{exactly_at}
 use Rattle.octets.specs.Numbers.{octet_of}
 use borrow.Author.Tests.{eq-eqb, ne_eqb}
 use mathlib.Core.Path.{sym, ◌∙◌}
-use borrow.Author.Rules.{rules}
 use Rattle.octets.proofs.elements.exactly_at.Goals as goal
 
 pub returns-in-Refused : goal.returns-in-Refused

@@ -1,5 +1,4 @@
 use borrow.Author.Tests.{ne_eqb}
-use borrow.Author.Rules.{rules}
 use Rattle.octets.proofs.items.overfull.Goals as goal
 
 pub returns-else-n-eq-CUT : goal.returns-else-n-eq-CUT

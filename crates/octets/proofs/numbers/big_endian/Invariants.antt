@@ -1,13 +1,9 @@
 -- `octets::numbers::big_endian` meets its contract. The loop's invariant: what was read so far, followed by the rest, is the whole number.
 -- Assumes nothing.
 use Prim.Native.Nat.{◌+◌, ◌-◌, ◌^◌, ◌≤◌, ◌<◌}
-use mathlib.Core.Path.{◌≡◌, ◌∙◌}
-use native.Mathlib.Nat.{add-zero, sub-zero, sub_self}
-use native.Mathlib.Omega.{arith}
-use borrow.Author.Rules.{rules}
+use mathlib.Core.Path.{◌≡◌}
 use lib.ListN.{take, drop}
 use Rattle.octets.specs.Numbers.{big_endian_on}
-use Rattle.octets.proofs.Digits.{be_turn, be_grow, be_below}
 use Rattle.octets.proofs.numbers.big_endian.Given as goal
 
 abbrev pub invariant-loop-i : goal.invariant-loop-i

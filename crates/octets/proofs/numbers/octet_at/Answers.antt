@@ -1,7 +1,6 @@
 -- `octets::numbers::octet_at` meets its contract. Assumes nothing.
 use Rattle.octets.specs.Numbers.{octet_at}
 use borrow.Author.Tests.{le-ltb, lt-ltb}
-use borrow.Author.Rules.{rules}
 use Rattle.octets.proofs.numbers.octet_at.Goals as goal
 
 pub returns-then-s-at : goal.returns-then-s-at

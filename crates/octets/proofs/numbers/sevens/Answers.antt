@@ -1,5 +1,4 @@
 -- `octets::numbers::sevens` meets its contract: the shift loses no bit. Assumes nothing.
-use borrow.Author.Rules.{rules}
 use native.Mathlib.Omega.{arith}
 use Prim.Native.Nat.{◌*◌}
 use native.Mathlib.Nat.{one-mul}

@@ -4,7 +4,6 @@ use Rattle.octets.specs.Vectors.{run_at}
 use borrow.Author.Tests.{le-leb, lt-leb}
 use lib.ListN.{length}
 use native.Mathlib.Omega.{arith}
-use borrow.Author.Rules.{rules}
 use Rattle.octets.proofs.vectors.run_at.Goals as goal
 
 pub returns-then-s-at : goal.returns-then-s-at

@@ -4,7 +4,6 @@ use mathlib.Core.Path.{ap, sym, ◌∙◌}
 use Rattle.octets.specs.Numbers.{number_of}
 use Rattle.octets.specs.Vectors.{span_at}
 use Rattle.octets.proofs.Inside.{intx_inside}
-use borrow.Author.Rules.{rules}
 use Rattle.octets.proofs.vectors.span_at.Goals as goal
 
 pub overflow_sub-s : goal.overflow_sub-s

@@ -1,7 +1,6 @@
 -- Group by group. Assumes nothing.
 use Rattle.bitfields.specs.Items.{built}
 use Rattle.records.specs.Records.{items_of, image_of}
-use borrow.Author.Rules.{rules}
 use Rattle.records.proofs.images.encode.Goals as goal
 
 pub returns : goal.returns

@@ -1,7 +1,6 @@
 -- The count and the rectangles. Assumes nothing.
 use Rattle.bitfields.specs.Items.{built}
 use Rattle.bitfields.specs.Runs.{with_fields}
-use borrow.Author.Rules.{rules}
 use Rattle.records.proofs.images.put_region.Goals as goal
 
 pub returns : goal.returns

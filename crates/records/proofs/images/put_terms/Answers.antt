@@ -1,7 +1,6 @@
 -- Kind, start and end, one after the other. Assumes nothing.
 use Rattle.bitfields.specs.Items.{built}
 use Rattle.bitfields.specs.Runs.{with_fields}
-use borrow.Author.Rules.{rules}
 use Rattle.records.proofs.images.put_terms.Goals as goal
 
 pub returns : goal.returns

@@ -1,6 +1,5 @@
 -- Count and values. Assumes nothing.
 use Rattle.records.specs.Records.{permissions_of}
-use borrow.Author.Rules.{rules}
 use Rattle.records.proofs.readings.decode_permissions.Goals as goal
 
 pub returns : goal.returns

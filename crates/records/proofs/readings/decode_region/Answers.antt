@@ -1,6 +1,5 @@
 -- Count and rectangles. Assumes nothing.
 use Rattle.records.specs.Records.{region_of}
-use borrow.Author.Rules.{rules}
 use Rattle.records.proofs.readings.decode_region.Goals as goal
 
 pub returns : goal.returns

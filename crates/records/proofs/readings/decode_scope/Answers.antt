@@ -1,6 +1,5 @@
 -- Field by field. Assumes nothing.
 use Rattle.records.specs.Records.{scope_of}
-use borrow.Author.Rules.{rules}
 use Rattle.records.proofs.readings.decode_scope.Goals as goal
 
 pub returns : goal.returns

@@ -4,11 +4,10 @@ use Rattle.octets.proofs.Laws.{then, stop, was, pass, fail, chosen, passed}
 use Rattle.octets.specs.Elements.{announces}
 use Rattle.octets.specs.Numbers.{octet_of}
 use Rattle.restrictions.specs.Areas.{area_at}
-use borrow.Author.Tests.{eq-eqb, ne_eqb, not-true, not-false}
+use borrow.Author.Tests.{eq-eqb, ne_eqb}
 use mathlib.Core.Bool.{true}
 use mathlib.Core.Path.{◌≡◌, sym, ◌∙◌}
 use native.Mathlib.Omega.{arith}
-use borrow.Author.Rules.{rules}
 use Rattle.restrictions.proofs.areas.area_at.Goals as goal
 use Rattle.restrictions.proofs.areas.area_at.Goals.{Else-not-announced}
 

@@ -1,5 +1,4 @@
 -- `restrictions::areas::no_area` meets its contract. Assumes nothing.
-use borrow.Author.Rules.{rules}
 use Rattle.restrictions.proofs.areas.no_area.Goals as goal
 
 pub returns : goal.returns

@@ -10,7 +10,6 @@ use Rattle.octets.specs.Vectors.{span_of}
 use Rattle.restrictions.specs.Areas.{rectangles_at}
 use borrow.Author.Tests.{le-ltb, lt-ltb}
 use mathlib.Core.Path.{sym, ◌∙◌}
-use borrow.Author.Rules.{rules}
 use Rattle.restrictions.proofs.areas.rectangles_at.Goals as goal
 
 abbrev covering : Region → Area

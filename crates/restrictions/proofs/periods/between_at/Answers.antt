@@ -4,7 +4,6 @@ use Rattle.octets.specs.Numbers.{number_of}
 use Rattle.restrictions.specs.Periods.{between_at}
 use borrow.Author.Tests.{le-ltb, lt-ltb}
 use mathlib.Core.Path.{sym, ◌∙◌}
-use borrow.Author.Rules.{rules}
 use Rattle.restrictions.proofs.periods.between_at.Goals as goal
 
 pub returns-then-end-start : goal.returns-then-end-start

@@ -8,7 +8,6 @@ use Rattle.restrictions.specs.Periods.{lasting_at}
 use borrow.Author.Tests.{le-ltb, lt-ltb}
 use mathlib.Core.Path.{sym, ◌∙◌}
 use native.Mathlib.Omega.{arith}
-use borrow.Author.Rules.{rules}
 use Rattle.restrictions.proofs.periods.lasting_at.Goals as goal
 
 pub overflow_add-end : goal.overflow_add-end

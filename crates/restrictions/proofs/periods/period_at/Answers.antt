@@ -6,7 +6,6 @@ use Rattle.octets.specs.Elements.{announces}
 use mathlib.Core.Bool.{false}
 use mathlib.Core.Path.{◌≡◌, sym, ◌∙◌}
 use native.Mathlib.Omega.{arith}
-use borrow.Author.Rules.{rules}
 use Rattle.restrictions.proofs.periods.period_at.Goals as goal
 use Rattle.restrictions.proofs.periods.period_at.Goals.{Else-announced, Else-announced-2}
 

@@ -1,15 +1,14 @@
 -- `restrictions::rectangles::rectangles_in` meets its contract: the loop over the elements of a vector. Assumes nothing.
-use Prim.Native.Nat.{ℕ, ◌-◌}
+use Prim.Native.Nat.{ℕ}
 use Rattle.geo.specs.declared.Region.{Region}
 use Rattle.octets.proofs.Laws.{then, stop, was}
-use Rattle.octets.proofs.Turns.{Reading, begin, again, full, stopped, done}
+use Rattle.octets.proofs.Turns.{begin, again, full, stopped, done}
 use Rattle.octets.specs.Items.{overfull_of}
 use Rattle.octets.specs.Numbers.{unsigned_at}
 use Rattle.octets.specs.Reading.{Out, got, refused}
 use Rattle.restrictions.proofs.Laws.{kept}
 use Rattle.geo.specs.Area.{unused}
 use Rattle.restrictions.specs.Rectangles.{rectangle_of, rectangle_at, rectangles_in}
-use borrow.Author.Rules.{rules}
 use mathlib.Core.Path.{ap, sym, ◌∙◌}
 use Rattle.restrictions.proofs.rectangles.rectangles_in.Goals as goal
 

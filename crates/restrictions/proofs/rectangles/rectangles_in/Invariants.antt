@@ -1,16 +1,9 @@
 -- `restrictions::rectangles::rectangles_in` meets its contract: the loop over the elements of a vector. Assumes nothing.
-use Prim.Native.Nat.{ℕ, ◌-◌}
-use Rattle.geo.specs.declared.Region.{Region}
-use Rattle.octets.proofs.Laws.{then, stop, was}
-use Rattle.octets.proofs.Turns.{Reading, begin, again, full, stopped, done}
-use Rattle.octets.specs.Items.{overfull_of}
+use Prim.Native.Nat.{◌-◌}
+use Rattle.octets.proofs.Turns.{Reading}
 use Rattle.octets.specs.Numbers.{unsigned_at}
-use Rattle.octets.specs.Reading.{Out, got, refused}
-use Rattle.restrictions.proofs.Laws.{kept}
 use Rattle.geo.specs.Area.{unused}
-use Rattle.restrictions.specs.Rectangles.{rectangle_of, rectangle_at, rectangles_in}
-use borrow.Author.Rules.{rules}
-use mathlib.Core.Path.{ap, sym, ◌∙◌}
+use Rattle.restrictions.specs.Rectangles.{rectangle_at}
 use Rattle.restrictions.proofs.rectangles.rectangles_in.Given as goal
 
 abbrev pub invariant-loop-at : goal.invariant-loop-at

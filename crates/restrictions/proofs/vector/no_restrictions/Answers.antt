@@ -1,6 +1,5 @@
 -- `restrictions::vector::no_restrictions` meets its contract. Assumes nothing.
 use Rattle.restrictions.specs.Vector.{unknown}
-use borrow.Author.Rules.{rules}
 use Rattle.restrictions.proofs.vector.no_restrictions.Goals as goal
 
 pub returns : goal.returns

@@ -7,7 +7,6 @@ use Rattle.restrictions.specs.Periods.{period_of}
 use Rattle.restrictions.specs.Vector.{restrictions_steps, restrictions_in}
 use borrow.Author.Tests.{le-leb, lt-leb}
 use mathlib.Core.Path.{sym, ◌∙◌, ap}
-use borrow.Author.Rules.{rules}
 use Rattle.restrictions.proofs.vector.restrictions_in.Goals as goal
 use Rattle.restrictions.proofs.vector.restrictions_in.Goals.{In-At, In-Value}
 

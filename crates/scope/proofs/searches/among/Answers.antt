@@ -1,15 +1,13 @@
 -- `scope::searches::among` meets its contract: what is left of the permissions decides.
 -- Assumes nothing.
-use Prim.Native.Nat.{◌≤◌, ◌-◌}
+use Prim.Native.Nat.{◌≤◌}
 use mathlib.Core.Path.{◌≡◌, refl, sym, ◌∙◌}
 use borrow.Author.Rules.{rules}
 use borrow.Author.Tests.{eq-eqb, ne_eqb}
 use lib.Dec.{eqb}
 use lib.ListN.{length}
-use lib.Seq.{slice}
 use native.Mathlib.Omega.{arith}
 use Rattle.geo.proofs.Lists.{some_yes, some_no, some_end}
-use Rattle.scope.specs.Issued.{is_listed}
 use Rattle.scope.proofs.searches.among.Goals as goal
 use Rattle.scope.proofs.searches.among.Goals.{Start}
 

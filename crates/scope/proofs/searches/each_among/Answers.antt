@@ -1,14 +1,12 @@
 -- `scope::searches::each_among` meets its contract: what is left of the permissions decides.
 -- Assumes nothing.
-use Prim.Native.Nat.{◌≤◌, ◌-◌}
+use Prim.Native.Nat.{◌≤◌}
 use mathlib.Core.Path.{◌≡◌, refl, sym, ◌∙◌}
 use borrow.Author.Rules.{rules}
-use borrow.Author.Tests.{not-true, not-false}
 use lib.ListN.{take, length}
-use lib.Seq.{slice}
 use native.Mathlib.Omega.{arith}
 use Rattle.geo.proofs.Lists.{each_yes, each_no, each_end}
-use Rattle.scope.specs.Issued.{is_listed, all_listed}
+use Rattle.scope.specs.Issued.{is_listed}
 use Rattle.scope.proofs.searches.each_among.Goals as goal
 use Rattle.scope.proofs.searches.each_among.Goals.{Start}
 

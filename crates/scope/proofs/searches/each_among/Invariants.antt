@@ -1,14 +1,10 @@
 -- `scope::searches::each_among` meets its contract: what is left of the permissions decides.
 -- Assumes nothing.
 use Prim.Native.Nat.{◌≤◌, ◌-◌}
-use mathlib.Core.Path.{◌≡◌, refl, sym, ◌∙◌}
-use borrow.Author.Rules.{rules}
-use borrow.Author.Tests.{not-true, not-false}
-use lib.ListN.{take, length}
+use mathlib.Core.Path.{◌≡◌}
+use lib.ListN.{take}
 use lib.Seq.{slice}
-use native.Mathlib.Omega.{arith}
-use Rattle.geo.proofs.Lists.{each_yes, each_no, each_end}
-use Rattle.scope.specs.Issued.{is_listed, all_listed}
+use Rattle.scope.specs.Issued.{all_listed}
 use Rattle.scope.proofs.searches.each_among.Given as goal
 
 abbrev pub invariant-loop-i : goal.invariant-loop-i

@@ -1,9 +1,9 @@
 -- `sha256::blocks::compress` meets its contract. Both loops keep `Turn`: the working variables after t rounds, and the schedule's last words.
 -- Assumes nothing.
-use Rattle.std.proofs.Common.{◌≡◌, ◌-◌, ◌≤◌, length, sym, refl, ◌∙◌, arith, rules}
+use Rattle.std.proofs.Common.{◌≡◌, sym, refl, ◌∙◌, arith, rules}
 use Rattle.sha256.specs.Constants.{K, constants}
 use Rattle.sha256.specs.Block.{compress_of}
-use Rattle.sha256.proofs.Ring.{Turn, turn_none, turn_more, ring_next}
+use Rattle.sha256.proofs.Ring.{turn_none, turn_more, ring_next}
 use Rattle.sha256.proofs.Schedule.{W_first}
 use Rattle.sha256.proofs.blocks.compress.Goals as goal
 

@@ -1,7 +1,6 @@
 -- `sha256::blocks::next_word` meets its contract.
 -- Assumes nothing.
 use Rattle.sha256.specs.Ring.{next_of}
-use Rattle.std.proofs.Common.{rules}
 use Rattle.sha256.proofs.blocks.next_word.Goals as goal
 
 pub returns : goal.returns

@@ -1,7 +1,6 @@
 -- `sha256::blocks::sum` meets its contract.
 -- Assumes nothing.
 use Rattle.sha256.specs.Block.{sum_of}
-use Rattle.std.proofs.Common.{rules}
 use Rattle.sha256.proofs.blocks.sum.Goals as goal
 
 pub returns : goal.returns

@@ -1,8 +1,7 @@
 -- `sha256::message::any_block` meets its contract. The loop keeps the octets copied so far.
 -- Assumes nothing.
-use Rattle.std.proofs.Common.{◌-◌, ◌≤◌, set, refl, arith, length-set, rules}
-use Rattle.sha256.specs.Hash.{padded}
-use Rattle.sha256.proofs.Copied.{Copied, copied_none, copied_more, copied_all}
+use Rattle.std.proofs.Common.{set, refl, arith, length-set, rules}
+use Rattle.sha256.proofs.Copied.{copied_none, copied_more, copied_all}
 use Rattle.sha256.proofs.Padding.{padded_length}
 use Rattle.sha256.proofs.message.any_block.Goals as goal
 

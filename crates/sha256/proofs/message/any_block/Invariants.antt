@@ -1,9 +1,8 @@
 -- `sha256::message::any_block` meets its contract. The loop keeps the octets copied so far.
 -- Assumes nothing.
-use Rattle.std.proofs.Common.{◌-◌, ◌≤◌, set, refl, arith, length-set, rules}
+use Rattle.std.proofs.Common.{◌-◌, ◌≤◌, set}
 use Rattle.sha256.specs.Hash.{padded}
-use Rattle.sha256.proofs.Copied.{Copied, copied_none, copied_more, copied_all}
-use Rattle.sha256.proofs.Padding.{padded_length}
+use Rattle.sha256.proofs.Copied.{Copied}
 use Rattle.sha256.proofs.message.any_block.Given as goal
 
 abbrev pub invariant-loop-k : goal.invariant-loop-k

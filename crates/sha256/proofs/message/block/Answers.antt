@@ -1,5 +1,5 @@
 -- By where the place zero lies. Assumes nothing.
-use Rattle.std.proofs.Common.{◌≡◌, ℕ, ◌+◌, ◌<◌, ◌≤◌, Bool, true, false, ◌||◌, ltb, leb, sym, refl, ap, ◌∙◌, arith, rules, ltb-false, ltb-true, leb-false, leb-true}
+use Rattle.std.proofs.Common.{◌≡◌, ℕ, ◌+◌, ◌<◌, ◌≤◌, Bool, true, false, ◌||◌, ltb, leb, sym, refl, ap, ◌∙◌, arith, ltb-false, ltb-true, leb-false, leb-true}
 use Rattle.sha256.proofs.message.block.Goals as goal
 
 right_of : (c b x : Bool) → c ≡ false → (c || b) ≡ x → b ≡ x

@@ -1,5 +1,5 @@
 -- The loop keeps the octets copied so far. Assumes nothing.
-use Rattle.std.proofs.Common.{◌≡◌, ◌-◌, ◌≤◌, refl, subst, arith, rules}
+use Rattle.std.proofs.Common.{◌≡◌, refl, subst, arith, rules}
 use Rattle.sha256.proofs.Copied.{Copied, copied_none, copied_more}
 use Rattle.sha256.proofs.Filled.{zero_put}
 use Rattle.sha256.proofs.message.inner_block.Goals as goal

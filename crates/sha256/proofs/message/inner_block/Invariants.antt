@@ -1,7 +1,6 @@
 -- The loop keeps the octets copied so far. Assumes nothing.
-use Rattle.std.proofs.Common.{◌≡◌, ◌-◌, ◌≤◌, refl, subst, arith, rules}
-use Rattle.sha256.proofs.Copied.{Copied, copied_none, copied_more}
-use Rattle.sha256.proofs.Filled.{zero_put}
+use Rattle.std.proofs.Common.{◌-◌, ◌≤◌}
+use Rattle.sha256.proofs.Copied.{Copied}
 use Rattle.sha256.proofs.message.inner_block.Given as goal
 
 abbrev pub invariant-loop-k : goal.invariant-loop-k

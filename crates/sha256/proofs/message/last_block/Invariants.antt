@@ -1,9 +1,7 @@
 -- Each loop keeps the octets written so far. Assumes nothing.
-use Rattle.std.proofs.Common.{◌≡◌, ℕ, ◌+◌, ◌-◌, ◌*◌, ◌≤◌, List, length, get_or, set, sym, refl, ap, ◌∙◌, arith, rules}
+use Rattle.std.proofs.Common.{◌≡◌, ◌+◌, ◌-◌, ◌*◌, ◌≤◌, length, set}
 use Rattle.sha256.specs.Hash.{octets8, padded}
-use Rattle.sha256.proofs.Copied.{Copied, copied_none, copied_more}
-use Rattle.sha256.proofs.Padding.{zeroed_message}
-use Rattle.sha256.proofs.Filled.{pad_is, length_is, block_whole}
+use Rattle.sha256.proofs.Copied.{Copied}
 use Rattle.sha256.proofs.message.last_block.Given as goal
 
 abbrev pub invariant-loop-k : goal.invariant-loop-k

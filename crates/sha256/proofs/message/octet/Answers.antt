@@ -1,6 +1,6 @@
 -- `sha256::message::octet` meets its contract: each return is one part of the padded message.
 -- Assumes nothing.
-use Rattle.std.proofs.Common.{◌≡◌, ℕ, ◌-◌, ◌<◌, ◌≤◌, List, length, get_or, sym, ap, ◌∙◌, arith, rules}
+use Rattle.std.proofs.Common.{◌≡◌, ℕ, ◌-◌, ◌<◌, ◌≤◌, List, length, get_or, sym, ap, ◌∙◌, arith}
 use Rattle.sha256.proofs.Padding.{end_of, zeroed_there, zeroed_message, zeroed_one, zeroed_zero, zeroed_count}
 use Rattle.sha256.proofs.message.octet.Goals as goal
 

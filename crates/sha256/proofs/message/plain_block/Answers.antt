@@ -1,5 +1,5 @@
 -- The last block, or another. Assumes nothing.
-use Rattle.std.proofs.Common.{arith, rules}
+use Rattle.std.proofs.Common.{arith}
 use Rattle.sha256.proofs.message.plain_block.Goals as goal
 
 pub last_block-requires : goal.last_block-requires

@@ -1,6 +1,6 @@
 -- `sha256::octets::length_octets` meets its contract.
 -- Assumes nothing.
-use Rattle.std.proofs.Common.{◌≡◌, ℕ, ◌*◌, ◌/◌, ◌%◌, ◌^◌, ◌<◌, [], ◌∷◌, sym, ap, arith, lit<, rules}
+use Rattle.std.proofs.Common.{◌≡◌, ℕ, ◌*◌, ◌/◌, ◌%◌, ◌^◌, ◌<◌, [], ◌∷◌, sym, ap, arith, lit<}
 use native.Mathlib.Nat.{mul-div-mul_left}
 use Rattle.sha256.specs.Hash.{octets8}
 use Rattle.sha256.proofs.octets.length_octets.Goals as goal

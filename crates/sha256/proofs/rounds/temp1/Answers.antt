@@ -1,7 +1,6 @@
 -- `sha256::rounds::temp1` meets its contract.
 -- Assumes nothing.
 use Rattle.sha256.specs.Round.{T₁}
-use Rattle.std.proofs.Common.{rules}
 use Rattle.sha256.proofs.rounds.temp1.Goals as goal
 
 pub returns : goal.returns

@@ -1,6 +1,5 @@
 -- `text::decimal::write_decimal` meets its contract. The invariant: the digits behind start are found. Assumes nothing.
-use Rattle.text.proofs.Decimals.{Found, found_none, found_room, found_more, found_all, decimal_ten}
-use borrow.Author.Rules.{rules}
+use Rattle.text.proofs.Decimals.{found_none, found_room, found_more, found_all, decimal_ten}
 use lib.ListN.{length, length-set}
 use mathlib.Core.Path.{refl, ap}
 use native.Mathlib.Omega.{arith}

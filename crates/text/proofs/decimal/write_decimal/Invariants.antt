@@ -1,9 +1,5 @@
 -- `text::decimal::write_decimal` meets its contract. The invariant: the digits behind start are found. Assumes nothing.
-use Rattle.text.proofs.Decimals.{Found, found_none, found_room, found_more, found_all, decimal_ten}
-use borrow.Author.Rules.{rules}
-use lib.ListN.{length, length-set}
-use mathlib.Core.Path.{refl, ap}
-use native.Mathlib.Omega.{arith}
+use Rattle.text.proofs.Decimals.{Found}
 use Rattle.text.proofs.decimal.write_decimal.Given as goal
 
 abbrev pub invariant-loop-rest : goal.invariant-loop-rest

@@ -1,7 +1,6 @@
 -- `text::hexadecimal::hex_digit` meets its contract: one line for each kind of digit. Assumes nothing.
 use native.Mathlib.Omega.{arith}
 use Rattle.text.proofs.Hex.{digit_low, digit_high}
-use borrow.Author.Rules.{rules}
 use Rattle.text.proofs.hexadecimal.hex_digit.Goals as goal
 
 pub returns-then-n-lt10 : goal.returns-then-n-lt10

@@ -1,9 +1,8 @@
 -- `text::hexadecimal::write_hex` meets its contract. The invariant: the digits of the first octets are written. Assumes nothing.
-use Prim.Native.Nat.{◌*◌, ◌≤◌, ◌-◌}
+use Prim.Native.Nat.{◌*◌}
 use Rattle.text.specs.Text.{hex_of}
 use Rattle.octets.proofs.Buffered.{octets_pasted}
 use Rattle.text.proofs.Hex.{hex_long, hex_turn}
-use borrow.Author.Rules.{rules}
 use lib.ListN.{length, length-set}
 use lib.Seq.{paste, paste-zero}
 use mathlib.Core.Path.{◌≡◌, refl, ap, ◌∙◌}

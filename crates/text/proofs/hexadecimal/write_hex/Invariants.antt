@@ -1,13 +1,9 @@
 -- `text::hexadecimal::write_hex` meets its contract. The invariant: the digits of the first octets are written. Assumes nothing.
 use Prim.Native.Nat.{◌*◌, ◌≤◌, ◌-◌}
 use Rattle.text.specs.Text.{hex_of}
-use Rattle.octets.proofs.Buffered.{octets_pasted}
-use Rattle.text.proofs.Hex.{hex_long, hex_turn}
-use borrow.Author.Rules.{rules}
-use lib.ListN.{length, length-set}
-use lib.Seq.{paste, paste-zero}
-use mathlib.Core.Path.{◌≡◌, refl, ap, ◌∙◌}
-use native.Mathlib.Omega.{arith}
+use lib.ListN.{length}
+use lib.Seq.{paste}
+use mathlib.Core.Path.{◌≡◌}
 use Rattle.text.proofs.hexadecimal.write_hex.Given as goal
 
 abbrev pub invariant-loop-i : goal.invariant-loop-i

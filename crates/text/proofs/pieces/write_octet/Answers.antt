@@ -2,7 +2,6 @@
 use native.Mathlib.Omega.{arith}
 use mathlib.Core.Path.{refl}
 use Rattle.octets.proofs.Buffered.{octets_one}
-use borrow.Author.Rules.{rules}
 use Rattle.text.proofs.pieces.write_octet.Goals as goal
 
 pub returns : goal.returns
