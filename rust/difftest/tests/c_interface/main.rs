@@ -4,6 +4,7 @@
 mod certificates;
 mod guide;
 mod header;
+mod header_text;
 mod inline_functions;
 mod installation;
 mod instructions;
