@@ -137,15 +137,15 @@ const REMAINDER: &str = "
 Inputs are raw octets, or hex text: two digits an octet, white space does not
 count, nor does what stands between a # and the end of its line, nor a BOM
 before it all. Which of them an input is, is seen from its octets, or said:
-  --input-raw   all inputs are raw octets
-  --input-hex   all inputs are hex text
+  --hex         all inputs are hex text; --input-hex is another name of it
+  --octets      all inputs are raw octets; --input-raw is another name of it
 No FILE, or -, is standard input.
 
 Outputs: a store is written in the form in which STORE came: raw octets in, raw
 octets out; hex text in, hex text out, with this tool's own comments and without
 those of the input. An example is hex text with comments. To override that:
   --raw         write raw octets
-  --hex         write hex text
+  --output-hex  write hex text
 
 Answers are pages for people. To override that:
   --json        one JSON object on one line; docs/INSPECT-JSON.md has its keys

@@ -11,7 +11,7 @@ fn ticket() -> Vec<u8> {
 }
 
 fn shown(octets: &[u8]) -> Answer {
-    run(&["certificate", "--input-raw"], octets)
+    run(&["certificate", "--octets"], octets)
 }
 
 /// The ids are from `sha256sum` over the octets with the signature's point type

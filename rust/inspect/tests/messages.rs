@@ -6,7 +6,7 @@ mod common;
 use common::{example, has_field, has_line, run, Answer};
 
 fn shown(octets: &[u8]) -> Answer {
-    run(&["message", "--input-raw"], octets)
+    run(&["message", "--octets"], octets)
 }
 
 #[test]

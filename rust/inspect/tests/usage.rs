@@ -124,7 +124,7 @@ fn stores_that_are_written() {
 }
 
 /// A command line, and how what is said of it begins.
-const BAD_USAGE: [(&[&str], &str); 36] = [
+const BAD_USAGE: [(&[&str], &str); 39] = [
     (&[], "no command is given\nusage: nattveldi-inspect COMMAND"),
     (&["--input-raw"], "no command is given\nusage: "),
     (&["certificat"], "no command certificat"),
@@ -153,12 +153,21 @@ const BAD_USAGE: [(&[&str], &str); 36] = [
     ),
     (
         &["store", "--input-hex", "--input-raw"],
-        "either --input-raw or --input-hex, not both",
+        "an input is either --input-hex or --input-raw",
     ),
     (&["store", "--raw"], "store takes no option --raw"),
     (
-        &["example", "store", "--hex", "--raw"],
-        "either --raw or --hex, not both",
+        &["example", "store", "--output-hex", "--raw"],
+        "either --raw or --output-hex, not both",
+    ),
+    (&["store", "--hex", "--octets"], "an input is either"),
+    (
+        &["store", "--input-hex", "--octets"],
+        "an input is either --input-hex or --octets",
+    ),
+    (
+        &["example", "store", "--hex"],
+        "example takes no option --hex",
     ),
     (&["store", "--hex", "--hex"], "--hex is given twice"),
     (
@@ -205,7 +214,10 @@ const BAD_USAGE: [(&[&str], &str); 36] = [
         &["withdraw", "a", "0102030405060708", "--output", "--raw"],
         "--output wants a value, and --raw is an option",
     ),
-    (&["install", "a", "b", "--hex"], "--hex wants --output"),
+    (
+        &["install", "a", "b", "--output-hex"],
+        "--output-hex wants --output",
+    ),
     (&["install", "a", "b", "--raw"], "--raw wants --output"),
     (&["admit", "a", "b", "--raw"], "--raw wants --output"),
     (
@@ -248,7 +260,7 @@ fn bad_inputs() {
             "standard input: hex text: line 2: 'z' is no hex digit",
         ),
         (
-            &["message", "--input-hex"],
+            &["message", "--hex"],
             &[2, 0],
             "standard input: hex text: line 1: ",
         ),

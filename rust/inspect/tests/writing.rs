@@ -20,9 +20,9 @@ fn forms() {
     let cases: [(&[u8], &[&str], bool); 6] = [
         (&raw, &[], true),
         (&raw, &["--raw"], true),
-        (&raw, &["--hex"], false),
+        (&raw, &["--output-hex"], false),
         (hex.as_bytes(), &[], false),
-        (hex.as_bytes(), &["--hex"], false),
+        (hex.as_bytes(), &["--output-hex"], false),
         (hex.as_bytes(), &["--raw"], true),
     ];
     for (input, option, is_raw) in cases {

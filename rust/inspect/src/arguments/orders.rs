@@ -166,7 +166,7 @@ fn example(words: &Words, rest: &[&OsStr]) -> Result<Order, String> {
     let target = words.target()?;
     let lost = words.has("--quiet") || (words.has("--json") && target.form.is_some());
     if lost && target.file.is_none() {
-        let options = "--quiet, --raw --json or --hex --json";
+        let options = "--quiet, --raw --json or --output-hex --json";
         return Err(format!("example wants --output beside {options}"));
     }
     Ok(Order::Example(*example, target))
