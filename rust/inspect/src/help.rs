@@ -90,8 +90,7 @@ const ADMIT: Command = Command {
 
 const VERDICT: &str =
     "      --verdict N              the chip's octet on the certificate, 1 for a good
-                               signature; without it 1 is assumed, and said, but
-                               nothing is written: --output wants it
+                               signature; without it 1 is assumed, and said
 ";
 
 const OUTPUT: &str = "      --output FILE            if accepted, write the changed store here;

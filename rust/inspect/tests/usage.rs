@@ -2,7 +2,7 @@
 
 mod common;
 
-use common::{file, has_line, run, run_raw};
+use common::{example, file, has_line, run, run_raw};
 
 const CERTIFICATES: [&str; 3] = ["root", "authority", "ticket"];
 const MESSAGES: [&str; 2] = ["by-id", "with-certificate"];
@@ -284,4 +284,15 @@ fn an_output_that_cannot_be_written() {
     let answer = run(&["example", "store", "--output", "/no/such/file"], b"");
     assert_eq!((answer.status, &answer.out[..]), (2, ""));
     assert!(answer.err.contains("/no/such/file: "), "{}", answer.err);
+}
+
+/// A refused install writes no store.
+#[test]
+fn a_refusal_writes_nothing() {
+    let empty = file("usage-empty", &[0; 13_568]);
+    let kept = file("usage-kept", b"kept");
+    let ticket = file("usage-ticket", &example("ticket.hex"));
+    let answer = run(&["admit", &empty, &ticket, "--output", &kept], b"");
+    assert_eq!(answer.status, 1);
+    assert_eq!(std::fs::read(&kept).unwrap(), b"kept");
 }

@@ -113,12 +113,6 @@ fn enter(words: &Words, rest: &[&OsStr], wants_root: bool) -> Result<Order, Stri
     let own = ["--verdict", "--output"];
     words.allow(command, &[&INPUT_FORM[..], &OUTPUT_FORM, &own].concat())?;
     let [store, certificate] = two(rest, command, "a store and a certificate")?;
-    if words.has("--output") && !words.has("--verdict") {
-        return Err(format!(
-            "{command} with --output wants --verdict N too, the chip's octet on the \
-             certificate's signature (1 is good); nothing is written"
-        ));
-    }
     Ok(Order::Enter(Entry {
         wants_root,
         store: words.source(store)?,
