@@ -128,7 +128,7 @@ const HELP: Command = Command {
     name: "help",
     text: &[
         "  help [COMMAND]               all of this, or what it says of one command\n",
-        "  --help, --version            this text; the version\n",
+        "  --help, --version            this text, as without any word; the version\n",
     ],
 };
 
@@ -203,7 +203,7 @@ pub fn on(name: &str) -> Option<String> {
     Some(format!("{}\n{more}\n", command.text.concat()))
 }
 
-/// For whoever gives no command.
+/// For whoever gives options and no command.
 pub fn usage() -> String {
     let names: Vec<&str> = commands().map(|command| command.name).collect();
     format!(

@@ -71,7 +71,7 @@ fn the_example_store_accepts_the_example_messages() {
 
 #[test]
 fn help_and_version() {
-    for words in [&["--help"][..], &["help"], &["decide", "--help"]] {
+    for words in [&["--help"][..], &[], &["decide", "--help"], &["help"]] {
         let answer = run(words, b"");
         assert_eq!((answer.status, &answer.err[..]), (0, ""));
         assert!(answer.out.starts_with("nattveldi-inspect COMMAND"));
@@ -125,8 +125,11 @@ fn stores_that_are_written() {
 
 /// A command line, and how what is said of it begins.
 const BAD_USAGE: [(&[&str], &str); 39] = [
-    (&[], "no command is given\nusage: nattveldi-inspect COMMAND"),
-    (&["--input-raw"], "no command is given\nusage: "),
+    (
+        &["--input-raw"],
+        "no command is given\nusage: nattveldi-inspect COMMAND",
+    ),
+    (&["--json"], "no command is given\nusage: "),
     (&["certificat"], "no command certificat"),
     (&["help", "certificat"], "no command certificat"),
     (&["help", "list", "page"], "help takes at most one command"),

@@ -28,7 +28,7 @@ const EXAMPLES: [(&str, Example); 6] = [
 
 pub fn parse(words: impl Iterator<Item = OsString>) -> Result<(Order, Style), String> {
     let words: Vec<OsString> = words.collect();
-    if words.iter().any(|word| word == "--help") {
+    if words.is_empty() || words.iter().any(|word| word == "--help") {
         return Ok((Order::Help(help::all()), Style::Page));
     }
     if words.iter().any(|word| word == "--version") {
