@@ -88,7 +88,7 @@ fn a_message_with_a_certificate() {
         "certificate 2, authority 9f914a14da0667de \"north\"",
         "certificate 3, root 1e38b1de3f581532 \"root\"",
         "it is a root",
-        "ITS-AID 36 (CA) is among the signer's permissions, [36 (CA)]",
+        "ITS-AID 36 is among the signer's permissions, [36]",
         "verdict on the certificate's signature",
         "verdict on the message's signature",
         "arrives at 0, as the library does",
