@@ -13,4 +13,5 @@ mod overview;
 mod pkg_config;
 mod programs;
 mod shared_library;
+mod whole_installation;
 mod withdrawal;
