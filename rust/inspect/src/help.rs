@@ -45,13 +45,21 @@ const GROUPS: [Group; 4] = [
 
 const CERTIFICATE: Command = Command {
     name: "certificate",
-    text: &["  certificate [FILE ..]        fields, offsets, id; if refused, why and where\n"],
+    text: &[
+        "  certificate [FILE]           fields, offsets, id; if refused, why and where\n",
+        EACH,
+    ],
 };
 
 const MESSAGE: Command = Command {
     name: "message",
-    text: &["  message [FILE ..]            the fields of a signed message, without a store\n"],
+    text: &[
+        "  message [FILE]               the fields of a signed message, without a store\n",
+        EACH,
+    ],
 };
+
+const EACH: &str = "      --each                   there may be several FILEs: a page on each\n";
 
 const STORE: Command = Command {
     name: "store",
@@ -150,10 +158,10 @@ Answers are pages for people. To override that:
   --json        one JSON object on one line; docs/INSPECT-JSON.md has its keys
   --quiet       the library's number alone, 0 if it accepts
 
-Pages on several files stand in the order given with an empty line between them.
---json puts them into one object, and --quiet gives each file its line, with a -
-for one that cannot be read. The others are shown all the same, and the exit
-status is 2.
+Pages on several files (--each) stand in the order given with an empty line
+between them. --json puts them into one object, and --quiet gives each file its
+line, with a - for one that cannot be read. The others are shown all the same,
+and the exit status is 2.
 
 --output writes all of FILE or nothing: a temporary file
 (.nattveldi-inspect-..) in the same folder is written, synced and renamed to

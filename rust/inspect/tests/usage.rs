@@ -124,7 +124,7 @@ fn stores_that_are_written() {
 }
 
 /// A command line, and how what is said of it begins.
-const BAD_USAGE: [(&[&str], &str); 39] = [
+const BAD_USAGE: [(&[&str], &str); 42] = [
     (
         &["--input-raw"],
         "no command is given\nusage: nattveldi-inspect COMMAND",
@@ -138,7 +138,16 @@ const BAD_USAGE: [(&[&str], &str); 39] = [
         &["certificate", "--at", "3"],
         "certificate takes no option --at",
     ),
+    (
+        &["certificate", "a", "b"],
+        "certificate takes one file, and 2 are given",
+    ),
+    (
+        &["message", "a", "b", "c"],
+        "message takes one file, and 3 are given",
+    ),
     (&["page", "a", "b"], "page takes one file, and 2 are given"),
+    (&["page", "a", "--each"], "page takes no option --each"),
     (&["certificate", "/no/such"], "/no/such: "),
     (&["store", "--at"], "--at wants a value"),
     (

@@ -57,14 +57,14 @@ pub fn parse(words: impl Iterator<Item = OsString>) -> Result<(Order, Style), St
     Ok((order?, style))
 }
 
-/// One file or several, or standard input.
+/// One file, or standard input; with --each several files.
 fn looking(words: &Words, rest: &[&OsStr], command: &str) -> Result<Vec<Source>, String> {
-    words.allow(command, &INPUT_FORM)?;
+    words.allow(command, &[&INPUT_FORM[..], &["--each"]].concat())?;
+    if rest.len() < 2 || !words.has("--each") {
+        return Ok(vec![words.source(at_most_one(command, rest)?)?]);
+    }
     if rest.iter().filter(|file| **file == "-").count() > 1 {
         return Err(TWICE.to_string());
-    }
-    if rest.is_empty() {
-        return Ok(vec![words.source(OsStr::new("-"))?]);
     }
     rest.iter().map(|file| words.source(file)).collect()
 }

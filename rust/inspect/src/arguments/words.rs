@@ -13,13 +13,14 @@ const WITH_VALUE: [&str; 7] = [
     "--certificate-verdict",
     "--output",
 ];
-const FLAGS: [&str; 8] = [
+const FLAGS: [&str; 9] = [
     "--octets",
     "--hex",
     "--input-raw",
     "--input-hex",
     "--raw",
     "--output-hex",
+    "--each",
     "--json",
     "--quiet",
 ];
