@@ -39,11 +39,11 @@ doc: ## write the documentation of the Rust bindings to rust/target/doc
 inspect: ## build rust/target/release/nattveldi-inspect (needs the archive)
 	$(CARGO) build --release --offline --package nattveldi-inspect
 
-install: ## install below PREFIX=/usr/local, after `make archive inspect page`; DESTDIR= for a package
-	./install --prefix $(PREFIX) $(if $(DESTDIR),--destdir $(DESTDIR))
+install: ## install all below PREFIX=/usr/local, after `make archive inspect page`; DESTDIR= for a package
+	./install --all --prefix $(PREFIX) $(if $(DESTDIR),--destdir $(DESTDIR))
 
 uninstall: ## remove what install put below PREFIX
-	./install --prefix $(PREFIX) $(if $(DESTDIR),--destdir $(DESTDIR)) --uninstall
+	./install --all --prefix $(PREFIX) $(if $(DESTDIR),--destdir $(DESTDIR)) --uninstall
 
 bench: ## time the library against the reference (needs the archive); ROUNDS=300
 	$(CARGO) $(RUN) --package bench -- $(ROUNDS)

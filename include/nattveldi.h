@@ -41,9 +41,9 @@ extern "C" {
  * three numbers, and the version of the bindings, to it.
  */
 #define NATTVELDI_VERSION "2.0.0"
-#define NATTVELDI_VERSION_MAJOR 2
-#define NATTVELDI_VERSION_MINOR 0
-#define NATTVELDI_VERSION_PATCH 0
+#define NATTVELDI_MAJOR_VERSION 2
+#define NATTVELDI_MINOR_VERSION 0
+#define NATTVELDI_PATCH_VERSION 0
 
 /* Stands before every function: an answer that is not looked at is a mistake,
  * and compilers that can say so do.
@@ -69,27 +69,38 @@ extern "C" {
 /* The chip's verdict on a good signature; any other octet means a bad one. */
 #define NATTVELDI_GOOD 1
 
-/* The answers. nattveldi_meaning says what each of them means. */
+/* The answers, and what each of them means; nattveldi_meaning says the same. */
 enum {
-    NATTVELDI_ACCEPTED = 0,
-    NATTVELDI_BAD_CALL = 1,
-    NATTVELDI_BAD_STORE = 2,
-    NATTVELDI_TOO_LONG = 3,
-    NATTVELDI_CUT = 4,
-    NATTVELDI_MALFORMED = 5,
-    NATTVELDI_UNSUPPORTED = 6,
-    NATTVELDI_UNKNOWN = 7,
-    NATTVELDI_WITHDRAWN = 8,
-    NATTVELDI_OTHER_CERTIFICATE = 9,
-    NATTVELDI_WRONG_KIND = 10,
-    NATTVELDI_NOT_PERMITTED = 11,
-    NATTVELDI_OUTSIDE_PERIOD = 12,
-    NATTVELDI_OUTSIDE_PLACE = 13,
-    NATTVELDI_OUT_OF_DATE = 14,
-    NATTVELDI_BAD_SIGNATURE = 15,
-    NATTVELDI_FULL = 16,
-    NATTVELDI_ALREADY_HELD = 17,
-    NATTVELDI_CHAIN_TOO_LONG = 18
+    NATTVELDI_ACCEPTED = 0,         /* every test passed */
+    NATTVELDI_BAD_CALL = 1,         /* a length, position or age is out of range, or a slot is
+                                     * above 63 */
+    NATTVELDI_BAD_STORE = 2,        /* a slot of the store breaks a rule, or two slots share an
+                                     * id */
+    NATTVELDI_TOO_LONG = 3,         /* the certificate has more than 1,024 octets, or the message
+                                     * more than 2,048 */
+    NATTVELDI_CUT = 4,              /* a field or vector passes the end of what holds it */
+    NATTVELDI_MALFORMED = 5,        /* it breaks a rule of the layout */
+    NATTVELDI_UNSUPPORTED = 6,      /* a version, type or algorithm is not read, or a number or
+                                     * count is too large */
+    NATTVELDI_UNKNOWN = 7,          /* the issuer, the signer or the id is not in the store, or
+                                     * the slot is empty */
+    NATTVELDI_WITHDRAWN = 8,        /* the issuer, the signer or the certificate with the id is
+                                     * withdrawn */
+    NATTVELDI_OTHER_CERTIFICATE = 9, /* the carried certificate differs from the stored one */
+    NATTVELDI_WRONG_KIND = 10,      /* the call takes other kinds, an issuer is a ticket, or a
+                                     * signer is not a ticket */
+    NATTVELDI_NOT_PERMITTED = 11,   /* the issuer lacks a certificate's permission, or the signer
+                                     * the message's */
+    NATTVELDI_OUTSIDE_PERIOD = 12,  /* a period is not inside the issuer's, or the message's
+                                     * second is not in it */
+    NATTVELDI_OUTSIDE_PLACE = 13,   /* a region is not inside the issuer's, or the position is
+                                     * not in it */
+    NATTVELDI_OUT_OF_DATE = 14,     /* the message is too old, too far ahead of now, or expired */
+    NATTVELDI_BAD_SIGNATURE = 15,   /* the verdict on a signature is not good */
+    NATTVELDI_FULL = 16,            /* no slot of the store is empty */
+    NATTVELDI_ALREADY_HELD = 17,    /* the id is in the store already, held or withdrawn */
+    NATTVELDI_CHAIN_TOO_LONG = 18   /* the eighth certificate from the signer upward is not a
+                                     * root */
 };
 
 /* The name of an answer, for messages to people. Where nattveldi_list or
@@ -128,12 +139,13 @@ NATTVELDI_MUST_USE static inline const char *nattveldi_meaning(int answer)
 {
     switch (answer) {
     case NATTVELDI_ACCEPTED: return "every test passed";
-    case NATTVELDI_BAD_CALL: return "a length, slot, position or age is out of range";
+    case NATTVELDI_BAD_CALL:
+        return "a length, position or age is out of range, or a slot is above 63";
     case NATTVELDI_BAD_STORE: return "a slot of the store breaks a rule, or two slots share an id";
     case NATTVELDI_TOO_LONG:
         return "the certificate has more than 1,024 octets, or the message more than 2,048";
     case NATTVELDI_CUT: return "a field or vector passes the end of what holds it";
-    case NATTVELDI_MALFORMED: return "a rule of the layout is broken";
+    case NATTVELDI_MALFORMED: return "it breaks a rule of the layout";
     case NATTVELDI_UNSUPPORTED:
         return "a version, type or algorithm is not read, or a number or count is too large";
     case NATTVELDI_UNKNOWN:
@@ -269,7 +281,7 @@ uint8_t nattveldi_id(const uint8_t *certificate, size_t certificate_length,
  */
 #define NATTVELDI_SLOTS 64
 #define NATTVELDI_SLOT_LENGTH 212
-#define NATTVELDI_STORE_LENGTH (NATTVELDI_SLOTS * NATTVELDI_SLOT_LENGTH)
+#define NATTVELDI_STORE_LENGTH 13568
 
 /* Installs a root (kind 4) in the lowest empty slot of `store`. `verdict` is
  * the chip's octet on the certificate's signature: NATTVELDI_GOOD, or any other
@@ -328,7 +340,7 @@ uint8_t nattveldi_stored(const uint8_t *store, size_t store_length, size_t slot,
                          uint8_t *stored, size_t stored_length);
 
 /* How many octets a list of slots needs: one for each slot. */
-#define NATTVELDI_LIST_LENGTH NATTVELDI_SLOTS
+#define NATTVELDI_LIST_LENGTH 64
 
 /* Finds the certificates that stand at `second` as `store` is. A certificate
  * stands if its chain of issuers reaches a root within eight certificates, each

@@ -4,7 +4,7 @@
 use std::fmt::Display;
 
 use crate::json::{Object, Value};
-use crate::text::{count, hex, its_aid, name, time};
+use crate::text::{count, hex, name, time};
 
 #[derive(Clone, Debug, PartialEq, Eq)]
 pub struct Fact {
@@ -39,10 +39,6 @@ impl Fact {
     /// Octets that may be text.
     pub fn name(octets: &[u8]) -> Fact {
         Fact::new(name::text(octets), hex::digits(octets))
-    }
-
-    pub fn its_aid(number: u32) -> Fact {
-        Fact::new(its_aid::text(number), number)
     }
 
     pub fn second(tai: u64) -> Fact {

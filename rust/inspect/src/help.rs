@@ -45,13 +45,21 @@ const GROUPS: [Group; 4] = [
 
 const CERTIFICATE: Command = Command {
     name: "certificate",
-    text: &["  certificate [FILE ..]        fields, offsets, id; if refused, why and where\n"],
+    text: &[
+        "  certificate [FILE]           fields, offsets, id; if refused, why and where\n",
+        EACH,
+    ],
 };
 
 const MESSAGE: Command = Command {
     name: "message",
-    text: &["  message [FILE ..]            the fields of a signed message, without a store\n"],
+    text: &[
+        "  message [FILE]               the fields of a signed message, without a store\n",
+        EACH,
+    ],
 };
+
+const EACH: &str = "      --each                   there may be several FILEs: a page on each\n";
 
 const STORE: Command = Command {
     name: "store",
@@ -90,8 +98,7 @@ const ADMIT: Command = Command {
 
 const VERDICT: &str =
     "      --verdict N              the chip's octet on the certificate, 1 for a good
-                               signature; without it 1 is assumed, and said, but
-                               nothing is written: --output wants it
+                               signature; without it 1 is assumed, and said
 ";
 
 const OUTPUT: &str = "      --output FILE            if accepted, write the changed store here;
@@ -129,7 +136,7 @@ const HELP: Command = Command {
     name: "help",
     text: &[
         "  help [COMMAND]               all of this, or what it says of one command\n",
-        "  --help, --version            this text; the version\n",
+        "  --help, --version            this text, as without any word; the version\n",
     ],
 };
 
@@ -137,24 +144,24 @@ const REMAINDER: &str = "
 Inputs are raw octets, or hex text: two digits an octet, white space does not
 count, nor does what stands between a # and the end of its line, nor a BOM
 before it all. Which of them an input is, is seen from its octets, or said:
-  --input-raw   all inputs are raw octets
-  --input-hex   all inputs are hex text
+  --hex         all inputs are hex text; --input-hex is another name of it
+  --octets      all inputs are raw octets; --input-raw is another name of it
 No FILE, or -, is standard input.
 
 Outputs: a store is written in the form in which STORE came: raw octets in, raw
 octets out; hex text in, hex text out, with this tool's own comments and without
 those of the input. An example is hex text with comments. To override that:
   --raw         write raw octets
-  --hex         write hex text
+  --output-hex  write hex text
 
 Answers are pages for people. To override that:
   --json        one JSON object on one line; docs/INSPECT-JSON.md has its keys
   --quiet       the library's number alone, 0 if it accepts
 
-Pages on several files stand in the order given with an empty line between them.
---json puts them into one object, and --quiet gives each file its line, with a -
-for one that cannot be read. The others are shown all the same, and the exit
-status is 2.
+Pages on several files (--each) stand in the order given with an empty line
+between them. --json puts them into one object, and --quiet gives each file its
+line, with a - for one that cannot be read. The others are shown all the same,
+and the exit status is 2.
 
 --output writes all of FILE or nothing: a temporary file
 (.nattveldi-inspect-..) in the same folder is written, synced and renamed to
@@ -204,7 +211,7 @@ pub fn on(name: &str) -> Option<String> {
     Some(format!("{}\n{more}\n", command.text.concat()))
 }
 
-/// For whoever gives no command.
+/// For whoever gives options and no command.
 pub fn usage() -> String {
     let names: Vec<&str> = commands().map(|command| command.name).collect();
     format!(

@@ -153,13 +153,9 @@ fn parts_are_the_librarys() {
         let aids = fields.permissions().iter();
         let values: Vec<Value> = aids.clone().map(|p| p.its_aid.into()).collect();
         assert_eq!(own_aids, values.iter().collect::<Vec<_>>());
-        // In words the number stands first, before a name.
-        let own_aids = permissions.map(|field| field.value.words.split(' ').next());
+        let own_aids: Vec<&str> = permissions.map(|field| &field.value.words[..]).collect();
         let aids: Vec<String> = aids.map(|p| p.its_aid.to_string()).collect();
-        assert!(
-            own_aids.eq(aids.iter().map(|aid| Some(&aid[..]))),
-            "{aids:?}"
-        );
+        assert_eq!(own_aids, aids);
     }
 }
 

@@ -11,7 +11,7 @@ fn ticket() -> Vec<u8> {
 }
 
 fn shown(octets: &[u8]) -> Answer {
-    run(&["certificate", "--input-raw"], octets)
+    run(&["certificate", "--octets"], octets)
 }
 
 /// The ids are from `sha256sum` over the octets with the signature's point type
@@ -69,9 +69,9 @@ const TICKET_FIELDS: [(usize, usize, &str, &str); 23] = [
     (20, 1, "subject_attribute.type", "0 (verification_key)"),
     (22, 1, "public_key.type", "3 (compressed_lsb_y_1)"),
     (56, 1, "assurance_level", "131 (level 4, confidence 3)"),
-    (59, 1, "its_aid", "36 (CA)"),
+    (59, 1, "its_aid", "36"),
     (61, 3, "service_specific_permissions", "018000"),
-    (64, 1, "its_aid", "37 (DEN)"),
+    (64, 1, "its_aid", "37"),
     (66, 4, "service_specific_permissions", "01ffffff"),
     (70, 1, "validity_restrictions.length", "28 octets"),
     (

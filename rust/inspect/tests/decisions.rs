@@ -17,14 +17,14 @@ fn prepared(test: &str) -> String {
     let first = file(&format!("{test}-first"), b"");
     let second = file(&format!("{test}-second"), b"");
     let root = path("root.hex");
-    let good = ["--verdict", "1", "--output"];
-    let words = [&["install", &empty, &root], &good[..], &[&first]].concat();
-    let answer = run(&words, b"");
+    let answer = run(&["install", &empty, &root, "--output", &first], b"");
     assert_eq!(answer.status, 0, "{}{}", answer.out, answer.err);
     has_line(&answer, &["1e38b1de3f581532, now in slot 0"]);
     let authority = path("authority.hex");
-    let words = [&["admit", &first, &authority], &good[..], &[&second]].concat();
-    let answer = run(&words, b"");
+    let answer = run(
+        &["admit", &first, &authority, "--output", &second, "--raw"],
+        b"",
+    );
     assert_eq!(answer.status, 0, "{}{}", answer.out, answer.err);
     has_line(&answer, &["9f914a14da0667de, now in slot 1"]);
     second
@@ -88,7 +88,7 @@ fn a_message_with_a_certificate() {
         "certificate 2, authority 9f914a14da0667de \"north\"",
         "certificate 3, root 1e38b1de3f581532 \"root\"",
         "it is a root",
-        "ITS-AID 36 (CA) is among the signer's permissions, [36 (CA)]",
+        "ITS-AID 36 is among the signer's permissions, [36]",
         "verdict on the certificate's signature",
         "verdict on the message's signature",
         "arrives at 0, as the library does",

@@ -63,11 +63,17 @@ impl Files {
             (vec!["certificate", &self.root], "0"),
             (vec!["certificate", &self.message], "6"),
             (
-                vec!["certificate", &self.ticket, &self.message, "/no/such"],
+                vec![
+                    "certificate",
+                    "--each",
+                    &self.ticket,
+                    &self.message,
+                    "/no/such",
+                ],
                 "0 6 -",
             ),
             (vec!["message", &self.message], "0"),
-            (vec!["message", &self.ticket, &self.by_id], "6 0"),
+            (vec!["message", "--each", &self.ticket, &self.by_id], "6 0"),
             (vec!["message", &self.by_id], "0"),
             (vec!["store", store, at[0], at[1]], "0"),
             (vec!["store", &self.bad_store], "2"),
@@ -214,17 +220,19 @@ fn another_reader() {
 fn several_files() {
     let files = Files::new("json-several");
     let alone = |file: &str| run(&["certificate", file], b"").out;
-    let words = ["certificate", &files.root, &files.ticket];
+    let words = ["certificate", "--each", &files.root, &files.ticket];
     let answer = run(&words, b"");
     let both = format!("{}\n{}", alone(&files.root), alone(&files.ticket));
     assert_eq!(
         (answer.status, &answer.out, &answer.err[..]),
         (0, &both, "")
     );
-    let answer = run(&["certificate", &files.root, &files.message], b"");
-    assert_eq!(answer.status, 1);
-    let words = ["certificate", "/no/such", &files.root, "-", &files.ticket];
-    let answer = run(&words, b"0z");
+    let words = ["certificate", "--each", &files.root, &files.message];
+    assert_eq!(run(&words, b"").status, 1);
+    let words = ["certificate", "--each", &files.root];
+    assert_eq!(run(&words, b"").out, alone(&files.root));
+    let words = ["/no/such", &files.root, "-", &files.ticket];
+    let answer = run(&[&["certificate", "--each"], &words[..]].concat(), b"0z");
     assert_eq!((answer.status, &answer.out), (2, &both));
     let said: Vec<&str> = answer.err.lines().collect();
     assert_eq!(said.len(), 2, "{said:?}");
@@ -243,7 +251,7 @@ fn bad_usage() {
             "an answer is either --json or --quiet",
         ),
         (
-            &["certificate", "-", "-"],
+            &["certificate", "--each", "-", "-"],
             "standard input is asked for twice",
         ),
         (

@@ -6,7 +6,7 @@ mod common;
 use common::{example, has_field, has_line, run, Answer};
 
 fn shown(octets: &[u8]) -> Answer {
-    run(&["message", "--input-raw"], octets)
+    run(&["message", "--octets"], octets)
 }
 
 #[test]
@@ -27,7 +27,7 @@ fn fields_of_a_message_by_id() {
         (2, 1, "header_field.type", "128 (signer_info)"),
         (4, 8, "signer_info.digest", "412293c545d1b81e"),
         (13, 8, "generation_time", time),
-        (22, 1, "its_aid", "36 (CA)"),
+        (22, 1, "its_aid", "36"),
         (23, 1, "payload_field.type", "1 (signed)"),
         (25, 13, "payload_field.data", text),
         (38, 1, "trailer_fields.length", "67 octets"),

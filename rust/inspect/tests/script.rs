@@ -97,7 +97,7 @@ fn help_needs_no_tool() {
     let place = Place::new("help");
     let (status, out, err) = place.run(&["--help"], &[]);
     assert_eq!((status, &err[..]), (0, ""));
-    assert!(out.starts_with("usage: ./read-certificate [FILE "), "{out}");
+    assert!(out.starts_with("usage: ./read-certificate [FILE]"), "{out}");
 }
 
 #[test]

@@ -36,7 +36,7 @@ fn the_slots() {
         "270.1 1 key parity 0 (point type 2)",
         "302.2 3 rectangle count 0 (everywhere)",
         "366.5 5 permission count 1",
-        "367.2 28 permission ITS-AID 36 (CA)",
+        "367.2 28 permission ITS-AID 36",
     ] {
         has_whole_line(&answer, line);
     }

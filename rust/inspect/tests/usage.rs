@@ -2,7 +2,7 @@
 
 mod common;
 
-use common::{file, has_line, run, run_raw};
+use common::{example, file, has_line, run, run_raw};
 
 const CERTIFICATES: [&str; 3] = ["root", "authority", "ticket"];
 const MESSAGES: [&str; 2] = ["by-id", "with-certificate"];
@@ -71,7 +71,7 @@ fn the_example_store_accepts_the_example_messages() {
 
 #[test]
 fn help_and_version() {
-    for words in [&["--help"][..], &["help"], &["decide", "--help"]] {
+    for words in [&["--help"][..], &[], &["decide", "--help"], &["help"]] {
         let answer = run(words, b"");
         assert_eq!((answer.status, &answer.err[..]), (0, ""));
         assert!(answer.out.starts_with("nattveldi-inspect COMMAND"));
@@ -124,9 +124,12 @@ fn stores_that_are_written() {
 }
 
 /// A command line, and how what is said of it begins.
-const BAD_USAGE: [(&[&str], &str); 36] = [
-    (&[], "no command is given\nusage: nattveldi-inspect COMMAND"),
-    (&["--input-raw"], "no command is given\nusage: "),
+const BAD_USAGE: [(&[&str], &str); 42] = [
+    (
+        &["--input-raw"],
+        "no command is given\nusage: nattveldi-inspect COMMAND",
+    ),
+    (&["--json"], "no command is given\nusage: "),
     (&["certificat"], "no command certificat"),
     (&["help", "certificat"], "no command certificat"),
     (&["help", "list", "page"], "help takes at most one command"),
@@ -135,7 +138,16 @@ const BAD_USAGE: [(&[&str], &str); 36] = [
         &["certificate", "--at", "3"],
         "certificate takes no option --at",
     ),
+    (
+        &["certificate", "a", "b"],
+        "certificate takes one file, and 2 are given",
+    ),
+    (
+        &["message", "a", "b", "c"],
+        "message takes one file, and 3 are given",
+    ),
     (&["page", "a", "b"], "page takes one file, and 2 are given"),
+    (&["page", "a", "--each"], "page takes no option --each"),
     (&["certificate", "/no/such"], "/no/such: "),
     (&["store", "--at"], "--at wants a value"),
     (
@@ -153,12 +165,21 @@ const BAD_USAGE: [(&[&str], &str); 36] = [
     ),
     (
         &["store", "--input-hex", "--input-raw"],
-        "either --input-raw or --input-hex, not both",
+        "an input is either --input-hex or --input-raw",
     ),
     (&["store", "--raw"], "store takes no option --raw"),
     (
-        &["example", "store", "--hex", "--raw"],
-        "either --raw or --hex, not both",
+        &["example", "store", "--output-hex", "--raw"],
+        "either --raw or --output-hex, not both",
+    ),
+    (&["store", "--hex", "--octets"], "an input is either"),
+    (
+        &["store", "--input-hex", "--octets"],
+        "an input is either --input-hex or --octets",
+    ),
+    (
+        &["example", "store", "--hex"],
+        "example takes no option --hex",
     ),
     (&["store", "--hex", "--hex"], "--hex is given twice"),
     (
@@ -205,7 +226,10 @@ const BAD_USAGE: [(&[&str], &str); 36] = [
         &["withdraw", "a", "0102030405060708", "--output", "--raw"],
         "--output wants a value, and --raw is an option",
     ),
-    (&["install", "a", "b", "--hex"], "--hex wants --output"),
+    (
+        &["install", "a", "b", "--output-hex"],
+        "--output-hex wants --output",
+    ),
     (&["install", "a", "b", "--raw"], "--raw wants --output"),
     (&["admit", "a", "b", "--raw"], "--raw wants --output"),
     (
@@ -248,7 +272,7 @@ fn bad_inputs() {
             "standard input: hex text: line 2: 'z' is no hex digit",
         ),
         (
-            &["message", "--input-hex"],
+            &["message", "--hex"],
             &[2, 0],
             "standard input: hex text: line 1: ",
         ),
@@ -272,4 +296,15 @@ fn an_output_that_cannot_be_written() {
     let answer = run(&["example", "store", "--output", "/no/such/file"], b"");
     assert_eq!((answer.status, &answer.out[..]), (2, ""));
     assert!(answer.err.contains("/no/such/file: "), "{}", answer.err);
+}
+
+/// A refused install writes no store.
+#[test]
+fn a_refusal_writes_nothing() {
+    let empty = file("usage-empty", &[0; 13_568]);
+    let kept = file("usage-kept", b"kept");
+    let ticket = file("usage-ticket", &example("ticket.hex"));
+    let answer = run(&["admit", &empty, &ticket, "--output", &kept], b"");
+    assert_eq!(answer.status, 1);
+    assert_eq!(std::fs::read(&kept).unwrap(), b"kept");
 }

@@ -20,9 +20,9 @@ fn forms() {
     let cases: [(&[u8], &[&str], bool); 6] = [
         (&raw, &[], true),
         (&raw, &["--raw"], true),
-        (&raw, &["--hex"], false),
+        (&raw, &["--output-hex"], false),
         (hex.as_bytes(), &[], false),
-        (hex.as_bytes(), &["--hex"], false),
+        (hex.as_bytes(), &["--output-hex"], false),
         (hex.as_bytes(), &["--raw"], true),
     ];
     for (input, option, is_raw) in cases {
@@ -43,21 +43,25 @@ fn forms() {
     }
 }
 
-/// A store that is written needs the chip's word; an explanation assumes it.
+/// A verdict that is not given is assumed to be good, also where a store is
+/// written; that it is assumed is said. The ticket's issuer is not in the store.
 #[test]
-fn a_verdict_is_asked_for() {
+fn a_verdict_is_assumed() {
     let empty = file("writing-empty", &[0; 13_568]);
-    let kept = file("writing-kept", b"kept");
-    for (command, name) in [("install", "root.hex"), ("admit", "ticket.hex")] {
+    for (command, name, status) in [("install", "root.hex", 0), ("admit", "ticket.hex", 1)] {
+        let kept = file("writing-kept", b"kept");
         let certificate = example_path(name).to_str().expect("UTF-8").to_string();
         let words = [command, &empty, &certificate];
-        let answer = run(&[&words[..], &["--output", &kept]].concat(), b"");
-        assert_eq!((answer.status, &answer.out[..]), (2, ""));
-        let said = format!("{command} with --output wants --verdict N");
-        assert!(answer.err.contains(&said), "{}", answer.err);
-        assert_eq!(fs::read(&kept).unwrap(), b"kept");
         let assumed = "1 on the certificate, assumed: --verdict is not given";
         has_line(&run(&words, b""), &["chip ", assumed]);
+        let answer = run(&[&words[..], &["--output", &kept]].concat(), b"");
+        assert_eq!((answer.status, &answer.err[..]), (status, ""));
+        has_line(&answer, &["chip ", assumed]);
+        let written = fs::read(&kept).unwrap();
+        assert_eq!(written == b"kept", status == 1);
+        let good = ["--verdict", "1", "--output", &kept];
+        assert_eq!(run(&[&words[..], &good].concat(), b"").status, status);
+        assert!(fs::read(&kept).unwrap() == written);
         let given = run(&[&words[..], &["--verdict", "1"]].concat(), b"");
         has_line(&given, &["chip ", "1 on the certificate (an input"]);
     }

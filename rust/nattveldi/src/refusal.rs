@@ -13,13 +13,13 @@ use crate::raw::ACCEPTED;
 /// let refusal = Refusal::from_number(5).unwrap();
 /// assert_eq!(refusal, Refusal::Malformed);
 /// assert_eq!(refusal.name(), "malformed");
-/// assert_eq!(refusal.to_string(), "malformed: a rule of the layout is broken");
+/// assert_eq!(refusal.to_string(), "malformed: it breaks a rule of the layout");
 /// ```
 #[derive(Clone, Copy, Debug, PartialEq, Eq, Hash, PartialOrd, Ord)]
 #[non_exhaustive]
 #[repr(u8)]
 pub enum Refusal {
-    /// A length, slot, position or age is out of range.
+    /// A length, position or age is out of range, or a slot is above 63.
     BadCall = 1,
     /// A slot of the store breaks a rule, or two slots share an id.
     BadStore = 2,
@@ -28,7 +28,7 @@ pub enum Refusal {
     TooLong = 3,
     /// A field or vector passes the end of what holds it.
     Cut = 4,
-    /// A rule of the layout is broken.
+    /// It breaks a rule of the layout.
     Malformed = 5,
     /// A version, type or algorithm is not read, or a number or count is too
     /// large.
@@ -158,13 +158,13 @@ impl Refusal {
     #[must_use]
     pub fn meaning(self) -> &'static str {
         match self {
-            Refusal::BadCall => "a length, slot, position or age is out of range",
+            Refusal::BadCall => "a length, position or age is out of range, or a slot is above 63",
             Refusal::BadStore => "a slot of the store breaks a rule, or two slots share an id",
             Refusal::TooLong => {
                 "the certificate has more than 1,024 octets, or the message more than 2,048"
             }
             Refusal::Cut => "a field or vector passes the end of what holds it",
-            Refusal::Malformed => "a rule of the layout is broken",
+            Refusal::Malformed => "it breaks a rule of the layout",
             Refusal::Unsupported => {
                 "a version, type or algorithm is not read, or a number or count is too large"
             }

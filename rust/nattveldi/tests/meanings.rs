@@ -103,20 +103,36 @@ fn constant(answer: &Answer) -> String {
 
 #[test]
 fn the_header_says_it() {
-    let header = text("include/nattveldi.h");
+    let header = words("include/nattveldi.h");
     let [names, meanings] = ["nattveldi_name", "nattveldi_meaning"].map(body);
     for body in [&names, &meanings] {
         assert_eq!(body.matches("case ").count(), 19, "{body}");
     }
     for answer in table() {
         let constant = constant(&answer);
-        let value = format!("    {constant} = {}", answer.number);
-        let ends = [",\n", "\n"].map(|end| header.contains(&(value.clone() + end)));
-        assert!(ends.contains(&true), "the header lacks {value}");
+        let comma = if answer.number == 18 { "" } else { "," };
+        let value = format!(" {constant} = {}{comma} ", answer.number);
+        let line = format!("{value}/* {} */ ", answer.meaning);
+        assert!(header.contains(&line), "the header lacks {line}");
         for (body, said) in [(&names, &answer.name), (&meanings, &answer.meaning)] {
             let line = format!("case {constant}: return \"{said}\";");
             assert!(body.contains(&line), "the header lacks {line}");
         }
+    }
+}
+
+/// The table of the README has the same rows, as they are.
+#[test]
+fn the_readme_says_it() {
+    let readme = text("README.md");
+    for answer in table() {
+        let Answer {
+            number,
+            name,
+            meaning,
+        } = answer;
+        let row = format!("\n| {number} | {name} | {meaning} |\n");
+        assert!(readme.contains(&row), "the README lacks {row}");
     }
 }
 
@@ -131,32 +147,42 @@ fn words(name: &str) -> String {
 fn of_an_unsupported_input() {
     let meaning = Refusal::Unsupported.meaning();
     for (name, number) in [
-        (
-            "include/nattveldi.h",
-            "case NATTVELDI_UNSUPPORTED: return \"",
-        ),
-        ("docs/ANSWERS.md", "| 6 | unsupported | "),
+        ("include/nattveldi.h", "NATTVELDI_UNSUPPORTED = 6, /* "),
+        ("README.md", "| 6 | unsupported | "),
     ] {
-        let line = format!("{number}{meaning}");
+        let line = format!("{number}{meaning} ");
         assert!(words(name).contains(&line), "{name} lacks {line}");
     }
 }
 
-/// Two numbers can come from a slot, and each says so wherever it is explained:
-/// the meanings are one text, and what is a bad call is said at more length too.
+/// What the header and the README say of a number, up to the next one.
+fn said(name: &str, start: &str, end: &str) -> String {
+    let words = words(name);
+    let behind = words.split_once(start).unwrap_or_else(|| panic!("{start}"));
+    behind.1.split_once(end).expect("its end").0.to_string()
+}
+
+/// Both numbers can come from a slot, and each says so wherever it is explained.
 #[test]
 fn of_a_slot() {
     let [call, unknown] = [Refusal::BadCall, Refusal::Unknown].map(Refusal::meaning);
-    assert!(call.contains("slot"), "{call}");
-    for (name, said) in [
-        ("include/nattveldi.h", "slot is above 63"),
-        ("docs/ANSWERS.md", "a slot above 63"),
+    let (header, readme) = ("include/nattveldi.h", "README.md");
+    for words in [
+        call.to_string(),
+        said(header, "NATTVELDI_BAD_CALL = 1,", "*/"),
+        said(readme, "| 1 | bad call |", " |"),
     ] {
-        assert!(words(name).contains(said), "{name} lacks {said}");
+        assert!(words.contains("a slot is above 63"), "{words}");
     }
-    let behind = unknown.split_once("or the slot").map(|(_, behind)| behind);
-    assert!(
-        behind.is_some_and(|words| words.contains("is empty")),
-        "{unknown}"
-    );
+    for words in [
+        unknown.to_string(),
+        said(header, "NATTVELDI_UNKNOWN = 7,", "*/"),
+        said(readme, "| 7 | unknown |", " |"),
+    ] {
+        let behind = words.split_once("or the slot").map(|(_, behind)| behind);
+        assert!(
+            behind.is_some_and(|words| words.contains("is empty")),
+            "{words}"
+        );
+    }
 }

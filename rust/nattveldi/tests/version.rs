@@ -19,9 +19,8 @@ fn between<'a>(text: &'a str, open: &str, close: &str) -> &'a str {
 #[test]
 fn is_that_of_the_header() {
     let header = text("include/nattveldi.h");
-    let definition = "\n#define NATTVELDI_VERSION \"";
-    assert_eq!(header.matches(definition).count(), 1);
-    let version = between(&header, definition, "\"\n");
+    assert_eq!(header.matches("#define NATTVELDI_VERSION").count(), 1);
+    let version = between(&header, "\n#define NATTVELDI_VERSION \"", "\"\n");
     assert_eq!(nattveldi::VERSION, version);
 }
 

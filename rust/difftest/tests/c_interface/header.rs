@@ -81,7 +81,7 @@ fn has_the_version() {
         .split('.')
         .map(|number| number.parse().expect("a number"))
         .collect();
-    let names = ["VERSION_MAJOR", "VERSION_MINOR", "VERSION_PATCH"];
+    let names = ["MAJOR_VERSION", "MINOR_VERSION", "PATCH_VERSION"];
     assert_eq!(numbers.len(), names.len());
     let constants: Vec<(&str, usize)> = names.into_iter().zip(numbers).collect();
     check_constants("version", &constants);

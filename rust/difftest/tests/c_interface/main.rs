@@ -4,6 +4,7 @@
 mod certificates;
 mod guide;
 mod header;
+mod header_text;
 mod inline_functions;
 mod installation;
 mod instructions;
@@ -12,4 +13,5 @@ mod overview;
 mod pkg_config;
 mod programs;
 mod shared_library;
+mod whole_installation;
 mod withdrawal;

@@ -14,7 +14,7 @@ pub enum Order {
     /// The help on everything or on one command.
     Help(String),
     Version,
-    /// One file or several.
+    /// One file, or several with --each.
     Certificate(Vec<Source>),
     Message(Vec<Source>),
     Store {

@@ -28,7 +28,7 @@ const EXAMPLES: [(&str, Example); 6] = [
 
 pub fn parse(words: impl Iterator<Item = OsString>) -> Result<(Order, Style), String> {
     let words: Vec<OsString> = words.collect();
-    if words.iter().any(|word| word == "--help") {
+    if words.is_empty() || words.iter().any(|word| word == "--help") {
         return Ok((Order::Help(help::all()), Style::Page));
     }
     if words.iter().any(|word| word == "--version") {
@@ -57,14 +57,14 @@ pub fn parse(words: impl Iterator<Item = OsString>) -> Result<(Order, Style), St
     Ok((order?, style))
 }
 
-/// One file or several, or standard input.
+/// One file, or standard input; with --each several files.
 fn looking(words: &Words, rest: &[&OsStr], command: &str) -> Result<Vec<Source>, String> {
-    words.allow(command, &INPUT_FORM)?;
+    words.allow(command, &[&INPUT_FORM[..], &["--each"]].concat())?;
+    if rest.len() < 2 || !words.has("--each") {
+        return Ok(vec![words.source(at_most_one(command, rest)?)?]);
+    }
     if rest.iter().filter(|file| **file == "-").count() > 1 {
         return Err(TWICE.to_string());
-    }
-    if rest.is_empty() {
-        return Ok(vec![words.source(OsStr::new("-"))?]);
     }
     rest.iter().map(|file| words.source(file)).collect()
 }
@@ -113,12 +113,6 @@ fn enter(words: &Words, rest: &[&OsStr], wants_root: bool) -> Result<Order, Stri
     let own = ["--verdict", "--output"];
     words.allow(command, &[&INPUT_FORM[..], &OUTPUT_FORM, &own].concat())?;
     let [store, certificate] = two(rest, command, "a store and a certificate")?;
-    if words.has("--output") && !words.has("--verdict") {
-        return Err(format!(
-            "{command} with --output wants --verdict N too, the chip's octet on the \
-             certificate's signature (1 is good); nothing is written"
-        ));
-    }
     Ok(Order::Enter(Entry {
         wants_root,
         store: words.source(store)?,
@@ -166,7 +160,7 @@ fn example(words: &Words, rest: &[&OsStr]) -> Result<Order, String> {
     let target = words.target()?;
     let lost = words.has("--quiet") || (words.has("--json") && target.form.is_some());
     if lost && target.file.is_none() {
-        let options = "--quiet, --raw --json or --hex --json";
+        let options = "--quiet, --raw --json or --output-hex --json";
         return Err(format!("example wants --output beside {options}"));
     }
     Ok(Order::Example(*example, target))

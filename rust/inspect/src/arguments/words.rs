@@ -13,19 +13,26 @@ const WITH_VALUE: [&str; 7] = [
     "--certificate-verdict",
     "--output",
 ];
-const FLAGS: [&str; 6] = [
+const FLAGS: [&str; 9] = [
+    "--octets",
+    "--hex",
     "--input-raw",
     "--input-hex",
     "--raw",
-    "--hex",
+    "--output-hex",
+    "--each",
     "--json",
     "--quiet",
 ];
 
-/// What says the form of the inputs: raw, hex.
-pub const INPUT_FORM: [&str; 2] = ["--input-raw", "--input-hex"];
+/// What says that the inputs are raw octets, and that they are hex text, under
+/// two names each.
+const INPUT_RAW: [&str; 2] = ["--octets", "--input-raw"];
+const INPUT_HEX: [&str; 2] = ["--hex", "--input-hex"];
+/// All of them.
+pub const INPUT_FORM: [&str; 4] = [INPUT_RAW[0], INPUT_HEX[0], INPUT_RAW[1], INPUT_HEX[1]];
 /// What says the form of the output: raw, hex.
-pub const OUTPUT_FORM: [&str; 2] = ["--raw", "--hex"];
+pub const OUTPUT_FORM: [&str; 2] = ["--raw", "--output-hex"];
 
 #[derive(Default)]
 pub struct Words {
@@ -94,8 +101,18 @@ impl Words {
     pub fn source(&self, file: &OsStr) -> Result<Source, String> {
         Ok(Source {
             file: (file != "-").then(|| file.to_owned()),
-            form: self.form(INPUT_FORM)?,
+            form: self.input_form()?,
         })
+    }
+
+    fn input_form(&self) -> Result<Option<Form>, String> {
+        let given = |names: [&'static str; 2]| names.into_iter().find(|name| self.has(name));
+        match (given(INPUT_RAW), given(INPUT_HEX)) {
+            (Some(raw), Some(hex)) => Err(format!("an input is either {hex} or {raw}")),
+            (Some(_), None) => Ok(Some(Form::Raw)),
+            (None, Some(_)) => Ok(Some(Form::Hex)),
+            (None, None) => Ok(None),
+        }
     }
 
     pub fn target(&self) -> Result<Target, String> {
@@ -107,11 +124,12 @@ impl Words {
         }
         Ok(Target {
             file,
-            form: self.form(OUTPUT_FORM)?,
+            form: self.output_form()?,
         })
     }
 
-    fn form(&self, [raw, hex]: [&str; 2]) -> Result<Option<Form>, String> {
+    fn output_form(&self) -> Result<Option<Form>, String> {
+        let [raw, hex] = OUTPUT_FORM;
         match (self.has(raw), self.has(hex)) {
             (true, true) => Err(format!("either {raw} or {hex}, not both")),
             (true, false) => Ok(Some(Form::Raw)),

@@ -45,7 +45,7 @@ fn tests(steps: &mut Steps, case: &Case) -> Result<(), u8> {
     let permitted = signer.permissions.contains(&message.its_aid);
     let text = format!(
         "the message's ITS-AID {} is among the signer's permissions, {}",
-        its_aid::text(message.its_aid),
+        message.its_aid,
         its_aid::list(&signer.permissions)
     );
     steps.note("the message again");

@@ -46,9 +46,7 @@ pub fn issued_by(steps: &mut Steps, subject: &Record, issuer: &Record) -> Result
 
 fn permissions(steps: &mut Steps, subject: &Record, issuer: &Record) -> Result<(), u8> {
     let absent = scope::absent(&subject.permissions, &issuer.permissions);
-    let lacking = absent.map_or(String::new(), |absent| {
-        format!("; ITS-AID {} is absent", its_aid::text(absent))
-    });
+    let lacking = absent.map_or(String::new(), |aid| format!("; ITS-AID {aid} is absent"));
     let text = format!(
         "its permissions, {}, are among the issuer's, {}{lacking}",
         its_aid::list(&subject.permissions),

@@ -45,7 +45,7 @@ impl Cursor<'_> {
 
     pub fn its_aid(&mut self) -> Result<u32, Fault> {
         let value = self.intx("its_aid")?;
-        self.describe(Fact::its_aid(value));
+        self.describe(Fact::number(value));
         Ok(value)
     }
 

@@ -9,7 +9,7 @@ use crate::fact::Fact;
 use crate::input::Origin;
 use crate::json::Object;
 use crate::proved;
-use crate::text::{degrees, hex, its_aid as named, name, time};
+use crate::text::{degrees, hex, name, time};
 use crate::verdict::{self, PASSED};
 
 /// Where the inputs came from, and what is said of each value that is not given;
@@ -92,7 +92,7 @@ impl Lines {
         let signer: [u8; 8] = decision.signer.into();
         let signer = ("  signer", "signer", Fact::octets(&signer));
         let mut object = self.facts(vec![signer]);
-        self.label("  ITS-AID", &named::text(decision.permission));
+        self.label("  ITS-AID", &decision.permission.to_string());
         object.extend(its_aid(decision.permission));
         let time = Fact::microsecond(decision.generation_time.into());
         object.extend(self.facts(vec![("  generated", "generation_time", time)]));

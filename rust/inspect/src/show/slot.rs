@@ -5,7 +5,7 @@ use crate::fact::Fact;
 use crate::json::Object;
 use crate::store::layout::*;
 use crate::store::{Record, HELD, WITHDRAWN};
-use crate::text::{degrees, its_aid, kind};
+use crate::text::{degrees, kind};
 
 /// The word for a state.
 pub fn state(state: u8) -> &'static str {
@@ -82,7 +82,7 @@ fn fields(record: &Record) -> Vec<Row> {
     let count = Fact::number(record.permission_count);
     rows.push((PERMISSION_COUNT, 0, "permission count", count));
     for (index, &permission) in record.permissions.iter().enumerate() {
-        let words = format!("ITS-AID {}", its_aid::text(permission));
+        let words = format!("ITS-AID {permission}");
         let value = Fact::new(words, permission);
         rows.push((PERMISSIONS, index, "permission", value));
     }

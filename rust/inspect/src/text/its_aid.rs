@@ -10,18 +10,10 @@ pub fn name(its_aid: u32) -> Option<&'static str> {
     named.map(|(_, name)| *name)
 }
 
-/// The number, and the name if it has one.
-pub fn text(its_aid: u32) -> String {
-    match name(its_aid) {
-        Some(name) => format!("{its_aid} ({name})"),
-        None => its_aid.to_string(),
-    }
-}
-
 /// Several of them, in brackets.
 pub fn list(its_aids: &[u32]) -> String {
-    let words: Vec<String> = its_aids.iter().map(|&its_aid| text(its_aid)).collect();
-    format!("[{}]", words.join(", "))
+    let words: Vec<String> = its_aids.iter().map(u32::to_string).collect();
+    format!("[{}]", words.join(" "))
 }
 
 #[cfg(test)]
@@ -30,10 +22,13 @@ mod tests {
 
     #[test]
     fn names() {
-        assert_eq!(text(36), "36 (CA)");
-        assert_eq!(text(37), "37 (DEN)");
-        assert_eq!((text(38), name(38)), ("38".to_string(), None));
-        assert_eq!(list(&[36, 4_000]), "[36 (CA), 4000]");
+        let names = [36, 37, 38].map(name);
+        assert_eq!(names, [Some("CA"), Some("DEN"), None]);
+    }
+
+    #[test]
+    fn lists() {
+        assert_eq!(list(&[36, 4_000]), "[36 4000]");
         assert_eq!(list(&[]), "[]");
     }
 }
