@@ -1,6 +1,6 @@
 // The program `page` (document 01, "The page program"): it prints the page for what standard input
-// holds. That is proved of every reader and writer whose octets a contract can name; which octets
-// the system gives and takes, no contract says.
+// holds. Unless a read or a write fails, that is proved of every reader and writer whose octets
+// a contract can name; which octets the system gives and takes, no contract says.
 #![tactic(auto)]
 
 ghost use Rattle.std.specs.Prelude.{◌≡◌, ◌+◌, ◌<◌, length, take, OnOk, IfSome};
