@@ -2,11 +2,11 @@
 use Prim.Native.Nat.{ℕ, zero, suc, ◌+◌, ◌≤◌, ◌<◌}
 use mathlib.Core.Path.{◌≡◌, refl, sym, ap, ap₂, ◌∙◌, subst}
 use mathlib.Core.Bool.{Bool, true, not}
-use mathlib.Core.Logic.{◌⊎◌, ◌≢◌, inl, inr, ⊎_elim}
+use mathlib.Core.Logic.{◌≢◌, ⊎_elim}
 use mathlib.Core.List.{List}
 use native.Mathlib.Omega.{arith}
-use native.Mathlib.Decide.{dec_le}
-use native.Mathlib.Nat.{eq-or-lt_of_le, lt_of_not-le}
+use Rattle.std.proofs.lemmas.Bool.{cases_eq}
+use native.Mathlib.Nat.{eq-or-lt_of_le}
 use lib.ListN.{length}
 use lib.Dec.{eqb}
 use Rattle.certificate.specs.declared.certificates.Certificate.{Certificate}
@@ -32,12 +32,6 @@ use Rattle.entries.proofs.Whole.{whole_of}
 use Rattle.admission.proofs.Good.{good}
 use Rattle.admission.proofs.Exactly.{empty_not, left_by}
 use Rattle.records.specs.Layout.{slot_length}
-
-same_or : (i j : ℕ) → (i ≡ j) ⊎ (i ≢ j)
-same_or i j = elim (dec_le i j) [
-  | yes le ↦ ⊎_elim (λ e. inl e) (λ lt. inr (λ e. omega arith)) (eq-or-lt_of_le le)
-  | no more ↦ inr (λ e. omega (arith, lt_of_not-le more))
-]
 
 -- what is known of the store that comes of it
 record Put (l : List ℕ) (i : ℕ) (r : Record) : Type 0 where
@@ -66,7 +60,7 @@ module _ (l : List ℕ) (i : ℕ) (r : Record) (v : Valid l) (free : LowestEmpty
   slots j h = ⊎_elim
       (λ e. ap (λ (k : ℕ). good_slot (slot_of (with_slot l i (image_of r)) k)) e ∙ ap good_slot (slot_same l i (image_of r) v.size free.slot long) ∙ keeps)
       (λ n. ap good_slot (slot_other l i (image_of r) v.size free.slot long j h n) ∙ v.slots j h)
-      (same_or j i)
+      (cases_eq j i)
 
   -- another slot with the new id would have held it before
   no_other : (j : ℕ) → j < 64 → j ≢ i → filled_at (with_slot l i (image_of r)) j ≡ true → id_at (with_slot l i (image_of r)) j ≡ number r.id → ⊥
@@ -79,13 +73,13 @@ module _ (l : List ℕ) (i : ℕ) (r : Record) (v : Valid l) (free : LowestEmpty
       (λ (a : j ≡ i). ⊎_elim
       (λ (b : k ≡ i). a ∙ sym b)
       (λ n. absurd (no_other k hk n fk (sym e ∙ ap (id_at (with_slot l i (image_of r))) a ∙ id)))
-      (same_or k i))
+      (cases_eq k i))
       (λ m. ⊎_elim
       (λ (b : k ≡ i). absurd (no_other j hj m fj (e ∙ ap (id_at (with_slot l i (image_of r))) b ∙ id)))
       (λ n. v.distinct j k hj hk (sym (other_filled j hj m) ∙ fj) (sym (other_filled k hk n) ∙ fk)
       (sym (other_id l i (image_of r) v.size free.slot long j hj m) ∙ e ∙ other_id l i (image_of r) v.size free.slot long k hk n))
-      (same_or k i))
-      (same_or j i)
+      (cases_eq k i))
+      (cases_eq j i)
 
   after_valid : Valid (with_slot l i (image_of r))
   after_valid =

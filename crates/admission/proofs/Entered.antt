@@ -2,18 +2,19 @@
 use mathlib.Core.Path.{◌≡◌, refl, sym, ap, ◌∙◌, subst}
 use mathlib.Core.Bool.{Bool, true, false}
 use mathlib.Core.List.{List}
-use mathlib.Core.Option.{none, some}
+use Rattle.std.specs.Prelude.{None, Some}
 use Prim.Native.Nat.{ℕ}
 use native.Mathlib.Omega.{arith}
 use lib.ListN.{length}
 use lib.Dec.{eqb}
 use Rattle.order.specs.Steps.{Answer, gives, refused, Steps, done, need, take, run, onward, Well}
 use Rattle.order.proofs.Steps.{passes, fails, takes, halts, run_follow}
+use Rattle.octets.proofs.Outcomes.{passed_on, number_no_zero}
 use Rattle.octets.specs.Forward.{Forward}
 use Rattle.octets.specs.Reading.{Out, got, refused as unread}
 use Rattle.certificate.specs.Operations.{whole, answer_of, reading_of}
 use Rattle.certificate.specs.declared.certificates.Certificate.{Certificate}
-use Rattle.certificate.specs.declared.operations.Reading.{Reading}
+use Rattle.certificate.specs.Operations.{Reading}
 use Rattle.certificate.proofs.Forward.{whole_forward}
 use Rattle.records.specs.Records.{image_of}
 use Rattle.records.specs.declared.Record.{Record}
@@ -55,13 +56,16 @@ module _ (anchor : Bool) (store : List ℕ) (r : Record) (verdict : ℕ) where
         run_follow (testing anchor store r verdict) (λ w. filling store r)
         ∙ ap (λ (a : Answer Well). onward a (λ w. run (filling store r))) (test_gives anchor store r verdict e)
 
-    pub placed_full : lowest_empty store ≡ none → ◌≡◌ {A = ℕ × List ℕ} (16, store) (placed anchor store r verdict)
+    pub placed_full : lowest_empty store ≡ None → ◌≡◌ {A = ℕ × List ℕ} (16, store) (placed anchor store r verdict)
     unfolding placed
     placed_full n = sym (ap (leaving store) (goes_on ∙ halts (ap (slot_or 16) n) (stored store r)))
 
-    pub placed_slot : (i : ℕ) → lowest_empty store ≡ some i → ◌≡◌ {A = ℕ × List ℕ} (0, with_slot store i (image_of r)) (placed anchor store r verdict)
+    pub placed_slot : (i : ℕ) → lowest_empty store ≡ Some i → ◌≡◌ {A = ℕ × List ℕ} (0, with_slot store i (image_of r)) (placed anchor store r verdict)
     unfolding placed run
     placed_slot i n = sym (ap (leaving store) (goes_on ∙ takes (ap (slot_or 16) n) (stored store r)))
+
+-- what the answers of `place` need
+pub ruleset placing_tests = (passed_on, number_no_zero, placed_stops, placed_full, placed_slot)
 
 -- ---- reading
 

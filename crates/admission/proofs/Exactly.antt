@@ -4,7 +4,7 @@ use mathlib.Core.Path.{◌≡◌, refl, sym, ap, ◌∙◌}
 use mathlib.Core.Bool.{Bool, true, false, not, ◌||◌}
 use mathlib.Core.Logic.{◌↔◌, ◌⊎◌, inl, inr, ⊎_elim}
 use mathlib.Core.List.{List}
-use mathlib.Core.Option.{Option, none, some}
+use Rattle.std.specs.Prelude.{Option, None, Some}
 use native.Mathlib.Omega.{arith}
 use native.Mathlib.Decide.{dec_le}
 use native.Mathlib.Nat.{eq-or-lt_of_le, lt_of_not-le}
@@ -16,7 +16,7 @@ use Rattle.order.proofs.Steps.{gives_refused, gives_exactly, refuses_at, run_nam
 use Rattle.octets.specs.Reading.{Out, got, refused as unread}
 use Rattle.certificate.specs.Operations.{whole, answer_of, reading_of}
 use Rattle.certificate.specs.declared.certificates.Certificate.{Certificate}
-use Rattle.certificate.specs.declared.operations.Reading.{Reading}
+use Rattle.certificate.specs.Operations.{Reading}
 use Rattle.certificate.proofs.Forward.{whole_forward}
 use Rattle.geo.proofs.Bools.{never, or_split, or_join}
 use Rattle.bitfields.specs.Field.{number}
@@ -44,7 +44,7 @@ use Rattle.admission.proofs.Entered.{read_gives}
 pub empty_not : (l : List ℕ) (i : ℕ) → state_at l i ≡ EMPTY → filled_at l i ≡ true → ⊥
 empty_not l i e f = never (sym (ap (λ (n : ℕ). not (eqb n 0)) e) ∙ f)
 
-lowest_to : (l : List ℕ) (i : ℕ) → lowest_empty l ≡ some i → LowestEmpty l i
+lowest_to : (l : List ℕ) (i : ℕ) → lowest_empty l ≡ Some i → LowestEmpty l i
 lowest_to l i e = let f = empty_finds l i e in record { slot = f.0; empty = f.1; filled_below_lem = f.2 }
 
 same_lowest : (l : List ℕ) (i j : ℕ) → LowestEmpty l i → LowestEmpty l j → j ≡ i
@@ -53,26 +53,26 @@ same_lowest l i j h k = elim (dec_le j i) [
   | no more ↦ absurd (empty_not l i h.empty (k.filled_below_lem i (lt_of_not-le more)))
 ]
 
-lowest_from_lem : (l : List ℕ) (i : ℕ) → LowestEmpty l i → lowest_empty l ≡ some i
+lowest_from_lem : (l : List ℕ) (i : ℕ) → LowestEmpty l i → lowest_empty l ≡ Some i
 lowest_from_lem l i h = by (lowest_empty l) refl
   where
-    by : (o : Option ℕ) → lowest_empty l ≡ o → o ≡ some i
-    by none e = absurd (empty_not l i h.empty (empty_none l e i h.slot))
-    by (some j) e = ap (λ (k : ℕ). some k) (same_lowest l i j h (lowest_to l j e))
+    by : (o : Option ℕ) → lowest_empty l ≡ o → o ≡ Some i
+    by None e = absurd (empty_not l i h.empty (empty_none l e i h.slot))
+    by (Some j) e = ap (λ (k : ℕ). Some k) (same_lowest l i j h (lowest_to l j e))
 
 absent_to : (l : List ℕ) (id : ℕ) → absent (find l id) ≡ true → (i : ℕ) → ¬ (Holds l id i)
 absent_to l id e i h = by (find l id) refl e
   where
     by : (o : Option ℕ) → find l id ≡ o → absent o ≡ true → ⊥
-    by none f t = find_none l id f i h.slot h.filled h.has_id_lem
-    by (some j) f t = never t
+    by None f t = find_none l id f i h.slot h.filled h.has_id_lem
+    by (Some j) f t = never t
 
 absent_from : (l : List ℕ) (id : ℕ) → ((i : ℕ) → ¬ (Holds l id i)) → absent (find l id) ≡ true
 absent_from l id n = by (find l id) refl
   where
     by : (o : Option ℕ) → find l id ≡ o → absent o ≡ true
-    by none f = refl
-    by (some j) f = absurd (n j (found_to l id j f))
+    by None f = refl
+    by (Some j) f = absurd (n j (found_to l id j f))
 
 -- ---- reading
 

@@ -2,7 +2,7 @@
 use mathlib.Core.Path.{◌≡◌, refl, sym, ap, ◌∙◌}
 use mathlib.Core.Bool.{Bool, true, false, not}
 use mathlib.Core.List.{List}
-use mathlib.Core.Option.{none, some}
+use Rattle.std.specs.Prelude.{Option, None, Some, is_some}
 use Prim.Native.Nat.{ℕ, zero, suc}
 use native.Mathlib.Omega.{arith}
 use lib.Dec.{eqb}
@@ -17,7 +17,7 @@ use Rattle.records.specs.declared.Record.{Record}
 use Rattle.store.specs.Slots.{slot_of, id_at}
 use Rattle.store.specs.Search.{find}
 use Rattle.store.specs.Withdrawn.{withdrawn_in}
-use Rattle.store.proofs.Found.{find_finds}
+use Rattle.store.proofs.Found.{find_finds, found_again}
 use Rattle.chain.specs.Stored.{slot_or}
 use Rattle.chain.proofs.Answers.{slot_named}
 use Rattle.admission.specs.Order.{absent, below_issuer, issuer_steps, testing}
@@ -33,6 +33,15 @@ stopped : (a : Answer Well) → ¬ (answerNumber a ≡ 0) → a ≡ refused (ans
 stopped (gives w) n = absurd (n refl)
 stopped (refused k) n = refl
 
+-- an id that is sought, found or not
+pub some_held : (o : Option ℕ) → is_some o ≡ true → absent o ≡ false
+some_held None e = sym e
+some_held (Some i) e = refl
+
+pub none_held : (o : Option ℕ) → is_some o ≡ false → absent o ≡ true
+none_held None e = refl
+none_held (Some i) e = sym e
+
 module _ (store : List ℕ) (subject : Scope) (i : ℕ) where
   pub below_withdrawn : withdrawn_in store (id_at store i) ≡ true → ◌≡◌ {A = ℕ} 8 (below_number store subject i)
   unfolding below_number
@@ -45,11 +54,11 @@ module _ (store : List ℕ) (subject : Scope) (i : ℕ) where
       ∙ issued_alone subject (scope_of (slot_of store i)))
 
 module _ (store : List ℕ) (id : ℕ) (subject : Scope) where
-  pub issuer_unknown : find store id ≡ none → ◌≡◌ {A = ℕ} 7 (issuer_number store id subject)
+  pub issuer_unknown : find store id ≡ None → ◌≡◌ {A = ℕ} 7 (issuer_number store id subject)
   unfolding issuer_number
   issuer_unknown e = sym (ap answerNumber (halts (ap (slot_or 7) e) (below_issuer store id subject)))
 
-  pub issuer_found : (i : ℕ) → find store id ≡ some i → below_number store subject i ≡ issuer_number store id subject
+  pub issuer_found : (i : ℕ) → find store id ≡ Some i → below_number store subject i ≡ issuer_number store id subject
   unfolding issuer_number below_number
   issuer_found i e =
       ap (λ (x : ℕ). answerNumber (run (below_issuer store x subject i))) (find_finds store id i e).2
@@ -113,3 +122,6 @@ module _ (anchor : Bool) (store : List ℕ) (r : Record) (verdict : ℕ) where
   pub test_stops : ¬ (test_number anchor store r verdict ≡ 0) → run (testing anchor store r verdict) ≡ refused (test_number anchor store r verdict)
   unfolding test_number
   test_stops n = stopped (run (testing anchor store r verdict)) n
+
+-- what the answers of an issuer's tests need
+pub ruleset issuer_tests = (below_withdrawn, below_held, issuer_unknown, issuer_found, found_again, anchor_passes, issuer_asked)

@@ -1,6 +1,6 @@
 -- Install and admit (01, "Order of checks"): 1, 2, 3, reading, 10, 17; for admit the issuer: 7, 8, 10, 11, 12, 13; for both then 15, 16.
 use Rattle.std.specs.Prelude.{ℕ, Bool, true, false, not, ◌||◌, List, length, eqb}
-use Rattle.std.proofs.Math.Option.{Option, none, some}
+use Rattle.std.specs.Prelude.{Option, None, Some}
 use Rattle.order.specs.Steps.{Answer, gives, refused, Steps, done, need, take, needs, follow, run, Well, well}
 use Rattle.octets.specs.Kinds.{TICKET, AUTHORITY, ROOT}
 use Rattle.octets.specs.Refusals.{ACCEPTED, BAD_CALL, BAD_STORE, UNKNOWN, WITHDRAWN, WRONG_KIND, BAD_SIGNATURE, FULL, ALREADY_HELD}
@@ -24,8 +24,8 @@ abbrev pub wanted : Bool → ℕ → Bool
 wanted anchor kind = pick anchor (eqb kind ROOT) (eqb kind TICKET || eqb kind AUTHORITY)
 
 abbrev pub absent : Option ℕ → Bool
-absent none = true
-absent (some i) = false
+absent None = true
+absent (Some i) = false
 
 -- an issuer that is stored: it is not withdrawn, and it allows what the certificate allows; no second and no position (docs/DECISIONS.md 31)
 abbrev pub below_issuer : List ℕ → ℕ → Scope → ℕ → Steps Well

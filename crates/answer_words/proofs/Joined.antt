@@ -7,9 +7,9 @@ use lib.ListN.{length, length-append}
 use Rattle.octets.specs.Buffers.{with_front, with_octets}
 use Rattle.octets.proofs.Buffered.{octets_front, octets_joined}
 use Rattle.field_words.specs.Words.{words_octets, with_words}
-use Rattle.field_words.proofs.Pasted.{words_length}
+use Rattle.field_words.proofs.Written.{words_length}
 use Rattle.verification.specs.declared.operations.Question.{Question}
-use Rattle.verification.specs.declared.operations.Prepared.{Prepared}
+use Rattle.verification.specs.Order.{Prepared}
 use Rattle.answer_words.specs.Answers.{id_start, aid_word, decision_length, question_length, certificate_word, questions_length, question_octets, questions_octets}
 
 -- octets, and others where those end

@@ -2,9 +2,9 @@
 use Rattle.std.specs.Prelude.{ℕ, ◌+◌, ◌*◌, ◌/◌, ◌^◌, List, [], ◌∷◌, ◌++◌}
 use Rattle.octets.specs.Buffers.{with_front}
 use Rattle.field_words.specs.Words.{words_octets}
-use Rattle.verification.specs.declared.operations.Decision.{Decision}
+use Rattle.verification.specs.Order.{Decision}
 use Rattle.verification.specs.declared.operations.Question.{Question}
-use Rattle.verification.specs.declared.operations.Prepared.{Prepared}
+use Rattle.verification.specs.Order.{Prepared}
 
 -- a decision: the octet at which the signer's id starts, the word at which its_aid stands, and how many octets there are
 abbrev pub id_start : ℕ

@@ -3,12 +3,14 @@
 
 mod slots; // all that a slot holds
 
-ghost use Rattle.std.specs.Prelude.{◌≡◌, ◌+◌, ◌*◌, ◌≤◌, ◌<◌, length};
+ghost use Rattle.std.specs.Prelude.{◌≡◌, ◌+◌, ◌*◌, ◌≤◌, ◌<◌, length, Ok};
 ghost use Rattle.octets.specs.Buffers.{with_octets};
+ghost use Rattle.verification.specs.Order.{decided_answer, prepared_answer};
 ghost use Rattle.answer_words.specs.Answers.{decision_length, question_length, questions_length, question_octets, with_decision, with_questions};
 
 use field_words::write_words;
 use octets::buffers::write_octets;
+use octets::vectors::Part;
 pub use slots::{STORED_LENGTH, write_stored};
 use verification::{Decision, Prepared, Question};
 
@@ -30,13 +32,12 @@ pub const QUESTIONS_LENGTH: usize = 2 * QUESTION_LENGTH;
 // A decision becomes the first octets of a buffer.
 pub fn write_decision(buffer: &mut [u8], d: Decision)
     requires { decision_length ≤ length buffer.old }
-    ensures { buffer.new ≡ with_decision d buffer.old }
+    ensures { buffer.new ≡ with_decision (decided_answer (Ok d)) buffer.old }
 {
     let payload = [d.payload.start as u64, d.payload.length as u64];
     write_words(buffer, 0, &payload);
-    let signer = d.signer;
-    write_octets(buffer, ID_START, &signer);
-    let signed = [d.permission as u64, d.generation / 4294967296, d.generation];
+    write_octets(buffer, ID_START, &d.signer);
+    let signed = [u64::from(d.permission), d.generation >> 32, d.generation];
     write_words(buffer, AID_WORD, &signed);
 }
 
@@ -50,20 +51,32 @@ fn write_question(buffer: &mut [u8], at: usize, q: Question)
         q.signed.length as u64,
         q.signature.start as u64,
         q.signature.length as u64,
-        q.form as u64,
+        u64::from(q.form),
     ];
     write_words(buffer, at, &words);
-    let key = q.key;
-    write_octets(buffer, 4 * at + KEY_START, &key);
+    write_octets(buffer, 4 * at + KEY_START, &q.key);
 }
+
+// What stands for a question that is not asked.
+const UNASKED: Question = Question {
+    signed: Part {
+        start: 0,
+        length: 0,
+    },
+    form: 0,
+    key: [0; 32],
+    signature: Part {
+        start: 0,
+        length: 0,
+    },
+};
 
 // The two questions become the first octets of a buffer.
 pub fn write_questions(buffer: &mut [u8], q: Prepared)
     requires { questions_length ≤ length buffer.old }
-    ensures { buffer.new ≡ with_questions q buffer.old }
+    ensures { buffer.new ≡ with_questions (prepared_answer (Ok q)) buffer.old }
 {
-    let message = q.message;
-    write_question(buffer, 0, message);
-    let certificate = q.certificate;
+    write_question(buffer, 0, q.message);
+    let certificate = q.certificate.unwrap_or(UNASKED);
     write_question(buffer, CERTIFICATE_WORD, certificate);
 }

@@ -3,7 +3,7 @@ use mathlib.Core.Path.{◌≡◌, refl, ap, ◌∙◌}
 use mathlib.Core.Logic.{◌↔◌, ⊎_elim}
 use mathlib.Core.Bool.{Bool, true}
 use mathlib.Core.List.{List, Memᴰ}
-use mathlib.Core.Option.{Option, none, some}
+use Rattle.std.specs.Prelude.{Option, None, Some}
 use Prim.Native.Nat.{ℕ, suc}
 use borrow.Author.Tests.{eqb-true, eq-eqb}
 use Rattle.order.specs.Steps.{gives, number, Named}
@@ -14,8 +14,7 @@ use Rattle.store.specs.Slots.{filled_at}
 use Rattle.store.specs.Search.{find}
 use Rattle.store.proofs.Found.{find_finds}
 use Rattle.chain.specs.declared.subjects.Subject.{Subject}
-use Rattle.chain.specs.declared.subjects.Place.{Place}
-use Rattle.chain.specs.declared.subjects.Place.TheVariants.{Anywhere}
+use Rattle.chain.specs.Places.{Place}
 use Rattle.chain.specs.Walk.{own_rows, meets}
 use Rattle.chain.specs.Chains.{Sound, Root, Chain, anchor, link, top}
 use Rattle.chain.specs.Stored.{subject_at, subject_or, issuer_in, walk_number, followers, stands}
@@ -27,8 +26,8 @@ use Rattle.chain.proofs.Meets as met
 use Rattle.chain.proofs.Chains as chains
 
 named : (l : List ℕ) (o : Option ℕ) → Named (subject_or UNKNOWN l o)
-named l none = tt
-named l (some i) = tt
+named l None = tt
+named l (Some i) = tt
 
 issuer_named : (l : List ℕ) (c : Subject) → Named (issuer_in l c)
 unfolding issuer_in
@@ -45,8 +44,8 @@ unfolding issuer_in
 found_stored l c j e = go (find l c.issuer) refl e
   where
     go : (o : Option ℕ) → find l c.issuer ≡ o → subject_or UNKNOWN l o ≡ gives j → StoredIn l j
-    go none f e = absurd (gives_refused j UNKNOWN e)
-    go (some i) f e =
+    go None f e = absurd (gives_refused j UNKNOWN e)
+    go (Some i) f e =
         let t = find_finds l c.issuer i f in
         let same : subject_at l i ≡ j = cc in
         record { slot = i; below = t.0; filled = t.1; here = same }
@@ -84,10 +83,10 @@ pub stands_filled : (l : List ℕ) (t i : ℕ) → stands l t i ≡ true → fil
 unfolding stands
 stands_filled l t i e = (and_split (filled_at l i) _ e).0
 
-pub stands_exactly : (l : List ℕ) (t i : ℕ) → filled_at l i ≡ true → (stands l t i ≡ true) ↔ Chain (issuer_in l) (Sound (withdrawn_in l) t Anywhere) followers (subject_at l i)
+pub stands_exactly : (l : List ℕ) (t i : ℕ) → filled_at l i ≡ true → (stands l t i ≡ true) ↔ Chain (issuer_in l) (Sound (withdrawn_in l) t None) followers (subject_at l i)
 unfolding stands
 stands_exactly l t i f =
-    let e = accepted_exactly (withdrawn_in l) l t Anywhere followers (subject_at l i) in (
+    let e = accepted_exactly (withdrawn_in l) l t None followers (subject_at l i) in (
       (λ z. e.0 (eqb-true _ 0 (and_split (filled_at l i) _ z).1)),
       (λ k. and_join (filled_at l i) _ f (eq-eqb _ 0 (e.1 k))),
     )

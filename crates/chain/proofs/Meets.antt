@@ -10,7 +10,7 @@ use Rattle.order.specs.Steps.{Answer, gives, Steps, done, stop, fork, run, Well,
 use Rattle.order.proofs.Steps.{gives_exactly, needs_from, needs_same, take_same, fork_same}
 use Rattle.scope.specs.Issued.{issued_rows}
 use Rattle.chain.specs.declared.subjects.Subject.{Subject}
-use Rattle.chain.specs.declared.subjects.Place.{Place}
+use Rattle.chain.specs.Places.{Place}
 use Rattle.chain.specs.Walk.{own_rows, is_root, climb, walk, next, meets}
 
 module _ (up : Subject → Answer Subject) where

@@ -2,7 +2,7 @@
 use mathlib.Core.Path.{◌≡◌, refl, sym, ap, subst, ◌∙◌}
 use mathlib.Core.Bool.{Bool, true, false}
 use mathlib.Core.List.{List}
-use mathlib.Core.Option.{Option, none, some}
+use Rattle.std.specs.Prelude.{Option, None, Some}
 use Prim.Native.Nat.{ℕ, zero, suc, ◌-◌, ◌<◌}
 use native.Mathlib.Nat.{suc-ne-zero}
 use borrow.Author.Tests.{eq-eqb, ne_eqb, eqb-true, eqb-false}
@@ -19,8 +19,7 @@ use Rattle.store.specs.Slots.{slot_of, id_at}
 use Rattle.store.specs.Search.{find}
 use Rattle.store.proofs.Found.{find_finds, found_again}
 use Rattle.chain.specs.declared.subjects.Subject.{Subject}
-use Rattle.chain.specs.declared.subjects.Place.{Place}
-use Rattle.chain.specs.declared.subjects.Place.TheVariants.{Anywhere, At}
+use Rattle.chain.specs.Places.{Place}
 use Rattle.chain.specs.Walk.{place_rows, own_rows, is_root, climb}
 use Rattle.chain.specs.Chains.{Root}
 use Rattle.chain.specs.Stored.{slot_or, subject_or, subject_at, issuer_in, walk_number}
@@ -28,8 +27,8 @@ use Rattle.chain.specs.Computed.{own_number, linked, upward, stepped, walked_on,
 use Rattle.chain.proofs.Coding as coding
 
 place_coded : (p : Place) (s : Scope) → Coded (place_rows p s)
-place_coded Anywhere s = no_row
-place_coded (At p) s = coded (λ e z. suc-ne-zero 12 z) no_row
+place_coded None s = no_row
+place_coded (Some p) s = coded (λ e z. suc-ne-zero 12 z) no_row
 
 rows : (gone : ℕ → Bool) (t : ℕ) (p : Place) (c : Subject) → Coded (own_rows gone t p c)
 rows gone t p c = coded (λ e z. suc-ne-zero 7 z) (coded (λ e z. suc-ne-zero 11 z) (place_coded p c.scope))
@@ -42,8 +41,8 @@ at_slot l s i = run_follow (needs (issued_rows s (scope_of (slot_of l i))) (done
 at_found_lem : (l : List ℕ) (s : Scope) (o : Option ℕ) → run (take (subject_or UNKNOWN l o) (λ j. needs (issued_rows s j.scope) (done j)))
     ≡ onward (onward (slot_or UNKNOWN o) (linked l s)) (λ j. gives (subject_at l j))
 unfolding run
-at_found_lem l s none = refl
-at_found_lem l s (some i) = at_slot l s i
+at_found_lem l s None = refl
+at_found_lem l s (Some i) = at_slot l s i
 
 step_slot : (l : List ℕ) (c : Subject) → run (climb (issuer_in l) c (λ j. done j)) ≡ onward (upward l c) (λ j. gives (subject_at l j))
 unfolding issuer_in upward
@@ -69,11 +68,11 @@ linked_on l s i e =
     sym ((gives_exactly (needs rows (done i)) i).1 (needs_from rows (done i) i ((all_pass rows (issued_coded s (scope_of (slot_of l i)))).0 e) refl))
 
 -- the step up
-pub up_unknown : (l : List ℕ) (c : Subject) → find l c.issuer ≡ none → refused UNKNOWN ≡ upward l c
+pub up_unknown : (l : List ℕ) (c : Subject) → find l c.issuer ≡ None → refused UNKNOWN ≡ upward l c
 unfolding upward
 up_unknown l c e = rw e
 
-pub up_linked : (l : List ℕ) (c : Subject) (j : ℕ) → find l c.issuer ≡ some j → linked l c.scope j ≡ upward l c
+pub up_linked : (l : List ℕ) (c : Subject) (j : ℕ) → find l c.issuer ≡ Some j → linked l c.scope j ≡ upward l c
 unfolding upward
 up_linked l c j e = rw e
 
@@ -81,14 +80,14 @@ pub kind_of : (l : List ℕ) (i : ℕ) → value_of (slot_of l i) KIND ≡ (subj
 unfolding subject_at scope_of
 kind_of l i = refl
 
-pub up_found : (l : List ℕ) (c : Subject) (j : ℕ) → upward l c ≡ gives j → (j < 64) × (find l (id_at l j) ≡ some j)
+pub up_found : (l : List ℕ) (c : Subject) (j : ℕ) → upward l c ≡ gives j → (j < 64) × (find l (id_at l j) ≡ Some j)
 unfolding upward
 up_found l c j e = go (find l c.issuer) refl e
   where
-    go : (o : Option ℕ) → find l c.issuer ≡ o → onward (slot_or UNKNOWN o) (linked l c.scope) ≡ gives j → (j < 64) × (find l (id_at l j) ≡ some j)
-    go none f e = absurd (gives_refused j UNKNOWN e)
-    go (some i) f e =
-        let q : find l c.issuer ≡ some j = f ∙ ap (λ (k : ℕ). some k) (linked_slot l c.scope i j e) in
+    go : (o : Option ℕ) → find l c.issuer ≡ o → onward (slot_or UNKNOWN o) (linked l c.scope) ≡ gives j → (j < 64) × (find l (id_at l j) ≡ Some j)
+    go None f e = absurd (gives_refused j UNKNOWN e)
+    go (Some i) f e =
+        let q : find l c.issuer ≡ Some j = f ∙ ap (λ (k : ℕ). Some k) (linked_slot l c.scope i j e) in
         ((find_finds l c.issuer j q).0, found_again l c.issuer j q)
 
 -- and none is refused with 0
@@ -101,8 +100,8 @@ unfolding upward
 up_named l c = go (find l c.issuer)
   where
     go : (o : Option ℕ) → Named (onward (slot_or UNKNOWN o) (linked l c.scope))
-    go none = tt
-    go (some i) = linked_named l c.scope i
+    go None = tt
+    go (Some i) = linked_named l c.scope i
 
 -- what a step leads to
 pub led : (l : List ℕ) (n : ℕ) (a : Answer ℕ) (j : ℕ) → a ≡ gives j → Leads l n a → Leads l n (gives j)

@@ -14,8 +14,8 @@ use Rattle.scope.specs.Issued.{issued_rows}
 use Rattle.scope.proofs.Exactly.{pass_exactly}
 use Rattle.scope.specs.declared.Scope.{Scope}
 use Rattle.chain.specs.declared.subjects.Subject.{Subject}
-use Rattle.chain.specs.declared.subjects.Place.{Place}
-use Rattle.chain.specs.declared.subjects.Place.TheVariants.{Anywhere, At}
+use Rattle.chain.specs.Places.{Place}
+use Rattle.std.specs.Prelude.{None, Some}
 use Rattle.chain.specs.Walk.{place_rows, own_rows, is_root, climb, walk}
 use Rattle.chain.specs.Chains.{InPlace, Sound, Chain, anchor, link}
 
@@ -83,16 +83,16 @@ module _ (up : Subject → Answer Subject) where
 
 -- the rows of a place
 place_to : (p : Place) (s : Scope) → Pass (place_rows p s) → InPlace p s
-place_to Anywhere s w = tt
-place_to (At p) s w = w.0
+place_to None s w = tt
+place_to (Some p) s w = w.0
 
 place_from : (p : Place) (s : Scope) → InPlace p s → Pass (place_rows p s)
-place_from Anywhere s w = tt
-place_from (At p) s w = (w, tt)
+place_from None s w = tt
+place_from (Some p) s w = (w, tt)
 
 place_numbered : (p : Place) (s : Scope) → Numbered (needs (place_rows p s) (done well))
-place_numbered Anywhere s = tt
-place_numbered (At p) s = tt
+place_numbered None s = tt
+place_numbered (Some p) s = tt
 
 not_from : (b : Bool) → b ≡ false → not b ≡ true
 not_from b e = rw e

@@ -1,8 +1,7 @@
 -- What the code answers on the way; no contract of an operation rests on it.
-use Rattle.std.specs.Prelude.{◌≡◌, Bool, ◌||◌, List, ℕ, ◌-◌, ◌<◌, eqb}
-use Rattle.std.proofs.Math.Option.{some}
+use Rattle.std.specs.Prelude.{◌≡◌, Bool, ◌||◌, List, ℕ, ◌-◌, ◌<◌, eqb, Option, None, Some, Result, Ok, Err}
 use Rattle.order.specs.Steps.{Answer, gives, refused, onward, done, stop, take, fork, run, needs, first_of}
-use Rattle.octets.specs.Refusals.{UNKNOWN, CHAIN_TOO_LONG}
+use Rattle.octets.specs.Refusals.{ACCEPTED, UNKNOWN, CHAIN_TOO_LONG}
 use Rattle.scope.specs.Issued.{issued_rows}
 use Rattle.scope.specs.declared.Scope.{Scope}
 use Rattle.records.specs.Records.{scope_of}
@@ -10,9 +9,9 @@ use Rattle.store.specs.Slots.{slot_count, slot_of, id_at}
 use Rattle.store.specs.Search.{find}
 use Rattle.store.specs.Withdrawn.{at_found, withdrawn_in}
 use Rattle.chain.specs.declared.subjects.Subject.{Subject}
-use Rattle.chain.specs.declared.subjects.Place.{Place}
-use Rattle.chain.specs.declared.steps.Up.{Up}
-use Rattle.chain.specs.declared.steps.Up.TheVariants.{On, Stop}
+use Rattle.chain.specs.Places.{Place}
+use Rattle.octets.specs.Outcomes.{number_of}
+use Rattle.octets.specs.declared.refusals.Refusal.{Refusal}
 use Rattle.chain.specs.Walk.{place_rows, own_rows, is_root}
 use Rattle.chain.specs.Stored.{subject_at, slot_or, walk_number}
 
@@ -30,9 +29,16 @@ place_number p s = first_of (place_rows p s)
 unfoldable pub own_number : (ℕ → Bool) → ℕ → Place → Subject → ℕ
 own_number gone t p c = first_of (own_rows gone t p c)
 
-abbrev pub up_of : Up → Answer ℕ
-up_of (On j) = gives j
-up_of (Stop k) = refused k
+-- the slot that counts as withdrawn besides those that are, if one does
+abbrev pub gone_of : Option ℕ → ℕ
+gone_of None = no_slot
+gone_of (Some g) = g
+
+-- the slot of the issuer, or the end of the walk: at a root, or at the first test that fails
+abbrev pub up_of : Result (Option ℕ) Refusal → Answer ℕ
+up_of (Ok (Some j)) = gives j
+up_of (Ok None) = refused ACCEPTED
+up_of (Err e) = refused (number_of e)
 
 -- the slot of an issuer that was found, if it allows all that the subject does
 unfoldable pub linked : List ℕ → Scope → ℕ → Answer ℕ
@@ -54,5 +60,5 @@ walked_on gone l t p n (refused k) = k
 
 -- a step leads only to a slot that its id finds, and only where one more may follow
 abbrev pub Leads : List ℕ → ℕ → Answer ℕ → Type 0
-Leads l n (gives j) = ¬ (n ≡ 0) × (j < slot_count) × (find l (id_at l j) ≡ some j)
+Leads l n (gives j) = ¬ (n ≡ 0) × (j < slot_count) × (find l (id_at l j) ≡ Some j)
 Leads l n (refused k) = Unit {0}

@@ -1,3 +1,5 @@
+pub mod Places
+pub mod Outcomes
 pub mod Walk
 pub mod Chains
 pub mod Stored

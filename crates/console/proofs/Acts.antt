@@ -2,7 +2,7 @@
 use mathlib.Core.Path.{◌≡◌, refl, sym, ap, subst, ◌∙◌}
 use mathlib.Core.Bool.{Bool, true, false}
 use mathlib.Core.List.{List}
-use mathlib.Core.Option.{some}
+use Rattle.std.specs.Prelude.{Some}
 use Prim.Native.Nat.{ℕ, zero, suc, ◌<◌}
 use native.Mathlib.Omega.{arith}
 use lib.Dec.{eqb}
@@ -30,7 +30,7 @@ use Rattle.chain.specs.Stored.{subject_at, Stored, Stands}
 use Rattle.chain.proofs.Chains.{chain_own}
 use Rattle.chain.proofs.Laws.{stands_exactly}
 use Rattle.overview.proofs.Laws.{read_given}
-use Rattle.overview.specs.declared.operations.SlotReading.{SlotReading}
+use Rattle.overview.specs.Order.{SlotReading}
 use Rattle.withdrawal.specs.Laws.{Askable}
 use Rattle.withdrawal.proofs.Asked.{withdrawal_asked}
 use Rattle.withdrawal.proofs.Laws.{asked_from}
@@ -45,7 +45,7 @@ by_state (suc (suc (suc zero))) a b h e g good = never good
 by_state (suc (suc (suc (suc n)))) a b h e g good = absurd (omega arith)
 
 module _ (s : List ℕ) (i : ℕ) (v : Valid s) (st : Stored s i) where
-  found : find s (id_at s i) ≡ some i
+  found : find s (id_at s i) ≡ Some i
   found = find_only s v.distinct i st.slot st.filled
 
   pub held_of : withdrawn_in s (id_at s i) ≡ false → state_at s i ≡ HELD

@@ -12,10 +12,8 @@ use Rattle.order.specs.Steps.{gives}
 use Rattle.octets.specs.Reading.{Out, got, refused}
 use Rattle.bitfields.specs.Field.{number, octets, Octets}
 use Rattle.bitfields.proofs.Octets.{octets_number}
-use Rattle.certificate.specs.Operations.{whole, answer_of, reading_of, certificate_id, identified_of, id_of}
+use Rattle.certificate.specs.Operations.{Reading, Identified, whole, answer_of, reading_of, certificate_id, identified_of, id_of}
 use Rattle.certificate.specs.declared.certificates.Certificate.{Certificate}
-use Rattle.certificate.specs.declared.operations.Reading.{Reading}
-use Rattle.certificate.specs.declared.operations.Identified.{Identified}
 use Rattle.records.specs.declared.Record.{Record}
 use Rattle.store.specs.Slots.{slot_count, EMPTY, GONE, filled_at}
 use Rattle.store.specs.Laws.{with_state}
@@ -26,7 +24,7 @@ use Rattle.validity.proofs.Laws as validity
 use Rattle.chain.specs.Stored.{Stored}
 use Rattle.chain.proofs.Laws.{stands_filled}
 use Rattle.slot_lists.specs.Listings.{named}
-use Rattle.overview.specs.declared.operations.SlotReading.{SlotReading}
+use Rattle.overview.specs.Order.{SlotReading}
 use Rattle.overview.specs.Order.{slot_reading, standing_listing}
 use Rattle.overview.proofs.Tests.{read_beyond, read_empty}
 use Rattle.overview.proofs.Laws.{read_given}

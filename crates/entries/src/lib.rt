@@ -10,97 +10,71 @@ ghost use Rattle.bitfields.specs.Field.{number};
 ghost use Rattle.entries.specs.Stored.{part_of, id_from, scope_from, record_from};
 ghost use Rattle.entries.specs.Outlines.{aids_placed};
 
-use attributes::permissions::{PermissionRead, permission_at};
-use bitfields::reading::window;
+use attributes::permissions::permission_at;
 use certificate::certificates::restrictions_of;
 use certificate::outlines::Outline;
 use octets::buffers::write_front;
 use octets::kinds::TICKET;
 use octets::vectors::Part;
 use records::{Key, Name, Record};
+use restrictions::rectangles::no_rectangles;
 use scope::{Permissions, Scope};
 use sha256::short_digest_with_zero_at;
+use store::states::HELD;
 
-// At most 8 octets, with zeros after them.
-fn in_eight(octets: &[u8]) -> [u8; 8]
-    requires { length octets.now ≤ 8 }
-    ensures { result ≡ padded 8 0 octets.now }
-{
-    let mut out = [0u8; 8];
-    write_front(&mut out, octets);
-    out
-}
-
-// At most 32 octets, with zeros after them.
-fn in_thirty_two(octets: &[u8]) -> [u8; 32]
-    requires { length octets.now ≤ 32 }
-    ensures { result ≡ padded 32 0 octets.now }
-{
-    let mut out = [0u8; 32];
-    write_front(&mut out, octets);
-    out
-}
-
-// The ITS-AIDs of the permissions from a position to the end. They were checked, so none is refused and each has room.
+// The ITS-AIDs of the permissions from a position to the end. They were checked, so none is
+// refused and each has room.
 fn aids_in(s: &[u8], start: usize, ssp: bool) -> Permissions
     requires { Readable ssp s.now start }
     ensures { result ≡ aids_placed (value_or [] (items_in ssp s.now start)) }
 {
     let mut values = [0u32; 16];
-    let mut count = 0;
     let mut at = start;
-    while at < s.len() {
-        match permission_at(s, at, ssp) {
-            PermissionRead::Refused(_) => break,
-            PermissionRead::Value { permission, next } => {
-                values[count] = permission.aid;
-                count += 1;
-                at = next;
-            }
+    for count in 0..16 {
+        if s.len() <= at {
+            return Permissions { count, values };
         }
+        let (permission, next) = permission_at(s, at, ssp).unwrap();
+        values[count] = permission.aid;
+        at = next;
     }
-    Permissions { count, values }
+    Permissions { count: 16, values }
 }
 
-// What a certificate allows.
+// What a certificate allows. One that gives no region allows each place.
+#[tactic(auto, unfolding(crate::specs::Stored::scope_from, attributes::specs::Outlines::permissions_from))]
 fn scope_from(s: &[u8], o: Outline) -> Scope
     requires { Outlined s.now o }
     ensures { result ≡ scope_from (certificate_from s.now o) }
 {
     let restrictions = restrictions_of(s, o.restrictions);
-    let region = restrictions.area.region;
-    let end = o.attributes.list.end;
-    let permissions = aids_in(&s[..end], o.attributes.list.start, o.head.kind == TICKET);
+    let period = restrictions.period.unwrap();
+    let list = o.attributes.list.unwrap();
+    let permissions = aids_in(&s[..list.end], list.start, o.head.kind == TICKET);
     Scope {
         kind: o.head.kind,
-        start: restrictions.period.start,
-        end: restrictions.period.end,
-        region,
+        start: period.start,
+        end: period.end,
+        region: restrictions.area.unwrap_or(no_rectangles()),
         permissions,
     }
 }
 
-// The issuer's id; zeros for a root.
-fn issuer_of(s: &[u8], digest: Part) -> [u8; 8]
-    requires { (digest.start + digest.length ≤ length s.now) × (digest.length ≤ 8) }
-    ensures { result ≡ padded 8 0 (part_of s.now digest) }
-{
-    let start = digest.start;
-    let end = start + digest.length;
-    in_eight(&s[start..end])
-}
-
-// The octets of a name or a key.
-fn octets_of(s: &[u8], part: Part) -> [u8; 32]
-    requires { (part.start + part.length ≤ length s.now) × (part.length ≤ 32) }
-    ensures { result ≡ padded 32 0 (part_of s.now part) }
+// The octets of a part, with zeros after them: an issuer's id, of which a root has none, a name or a key.
+#[tactic(auto, using(crate::proofs::Fronts::front_padded))]
+fn octets_of<const N: usize>(s: &[u8], part: Part) -> [u8; N]
+    requires { (part.start + part.length ≤ length s.now) × (part.length ≤ N) }
+    ensures { result ≡ padded N 0 (part_of s.now part) }
 {
     let start = part.start;
     let end = start + part.length;
-    in_thirty_two(&s[start..end])
+    let mut octets = [0; N];
+    write_front(&mut octets, &s[start..end]);
+    octets
 }
 
 // The id of a certificate: hashed from its own octets, with the signature's point type taken as 0.
+#[tactic(auto, unfolding(crate::specs::Stored::id_from))]
 fn id_from(s: &[u8], o: Outline) -> [u8; 8]
     requires { o.signed.start + o.signed.length + 66 ≤ length s.now }
     ensures { result ≡ id_from s.now (certificate_from s.now o) }
@@ -112,19 +86,20 @@ fn id_from(s: &[u8], o: Outline) -> [u8; 8]
 }
 
 // The record of a certificate whose outline was read in s.
+#[tactic(auto, unfolding(crate::specs::Stored::record_from))]
 pub fn record_from(s: &[u8], o: Outline) -> Record
     requires { Outlined s.now o }
     ensures { result ≡ record_from s.now (certificate_from s.now o) }
 {
     let id = id_from(s, o);
-    let issuer = issuer_of(s, o.head.signer.digest);
+    let issuer = octets_of(s, o.head.signer.digest);
     let scope = scope_from(s, o);
     let name = octets_of(s, o.head.name);
     let key = octets_of(s, o.attributes.key.octets);
     Record {
         id,
         issuer,
-        state: 1,
+        state: HELD,
         scope,
         name: Name {
             length: o.head.name.length,
@@ -141,5 +116,5 @@ pub fn record_from(s: &[u8], o: Outline) -> Record
 pub fn as_number(id: [u8; 8]) -> u64
     ensures { result ≡ number id }
 {
-    window(&id, 0)
+    u64::from_be_bytes(id)
 }

@@ -1,3 +1,3 @@
-pub mod Pasted
-pub mod Flags
+pub mod Written
 pub mod Rectangles
+pub mod Mapped

@@ -1,17 +1,31 @@
--- Four rectangles written one behind the other. Assumes nothing.
-use mathlib.Core.Path.{◌≡◌, ap, ap₂, ◌∙◌}
+-- Rectangles written one behind the other. Assumes nothing.
+use mathlib.Core.Path.{◌≡◌, refl}
 use mathlib.Core.List.{List}
-use Prim.Native.Nat.{ℕ, ◌+◌}
+use Prim.Native.Nat.{ℕ, zero, suc, ◌+◌, ◌*◌}
+use native.Mathlib.Numerals.{add-one}
+use native.Mathlib.Omega.{arith}
 use lib.ListN.{get_or}
 use Rattle.geo.specs.Area.{unused}
 use Rattle.geo.specs.declared.Rectangle.{Rectangle}
 use Rattle.field_words.specs.Words.{with_words}
 use Rattle.field_words.specs.Fields.{edge_words, with_rectangles}
 
-pub rectangles_written : (at : ℕ) (rectangles : List Rectangle) (l : List ℕ) {w x y z a b c d : List ℕ}
-    → w ≡ edge_words (get_or rectangles 0 unused) → a ≡ with_words at w l → x ≡ edge_words (get_or rectangles 1 unused) → b ≡ with_words (at + 4) x a
-    → y ≡ edge_words (get_or rectangles 2 unused) → c ≡ with_words (at + 8) y b → z ≡ edge_words (get_or rectangles 3 unused) → d ≡ with_words (at + 12) z c
-    → d ≡ with_rectangles at rectangles l
-unfolding with_rectangles
-rectangles_written at rectangles l first a second b third c fourth d =
-    d ∙ ap₂ (with_words (at + 12)) fourth (c ∙ ap₂ (with_words (at + 8)) third (b ∙ ap₂ (with_words (at + 4)) second (a ∙ ap (λ (e : List ℕ). with_words at e l) first)))
+-- the first i of them
+pub first_rectangles : ℕ → List Rectangle → ℕ → List ℕ → List ℕ
+first_rectangles at rectangles zero l = l
+first_rectangles at rectangles (suc i) l = with_words (at + 4 * i) (edge_words (get_or rectangles i unused)) (first_rectangles at rectangles i l)
+
+pub rectangles_none : (at : ℕ) (rectangles : List Rectangle) (l : List ℕ) → first_rectangles at rectangles 0 l ≡ l
+unfolding first_rectangles
+rectangles_none at rectangles l = refl
+
+pub rectangles_more : (at : ℕ) (rectangles : List Rectangle) (i : ℕ) (l : List ℕ)
+    → first_rectangles at rectangles (i + 1) l ≡ with_words (at + 4 * i) (edge_words (get_or rectangles i unused)) (first_rectangles at rectangles i l)
+unfolding first_rectangles
+rectangles_more at rectangles i l = rw add-one
+
+pub rectangles_four : (at : ℕ) (rectangles : List Rectangle) (i : ℕ) (l : List ℕ) → i ≡ 4 → first_rectangles at rectangles i l ≡ with_rectangles at rectangles l
+unfolding first_rectangles with_rectangles
+rectangles_four at rectangles i l e =
+    let z : at + 0 ≡ at = omega arith in
+    rw (e, z)

@@ -1,15 +1,17 @@
 -- The fields of a certificate as words: the layout of include/nattveldi.h, section by section.
-use Rattle.std.specs.Prelude.{ℕ, ◌+◌, ◌/◌, ◌^◌, Bool, List, [], ◌∷◌, map, get_or, eqb}
+use Rattle.std.specs.Prelude.{ℕ, ◌+◌, ◌/◌, ◌^◌, Bool, List, [], ◌∷◌, map, get_or, replicate, is_some, unwrap_or, Option, Some, None}
 use Rattle.octets.specs.Reading.{pick}
 use Rattle.octets.specs.Coordinates.{pattern_of}
 use Rattle.octets.specs.declared.vectors.Part.{Part}
 use Rattle.geo.specs.declared.Rectangle.{Rectangle}
 use Rattle.attributes.specs.declared.points.Point.{Point}
-use Rattle.attributes.specs.declared.assurances.Assurance.{Assurance}
+use Rattle.attributes.specs.Permissions.{unused as no-permission}
 use Rattle.attributes.specs.declared.permissions.Permission.{Permission}
+use Rattle.attributes.specs.declared.permissions.Permissions.{Permissions}
 use Rattle.attributes.specs.declared.vector.Attributes.{Attributes}
 use Rattle.geo.specs.Area.{unused}
 use Rattle.restrictions.specs.declared.periods.Period.{Period}
+use Rattle.restrictions.specs.Rectangles.{everywhere}
 use Rattle.restrictions.specs.declared.vector.Restrictions.{Restrictions}
 use Rattle.certificate.specs.declared.heads.Head.{Head}
 use Rattle.certificate.specs.declared.signatures.Signature.{Signature}
@@ -28,22 +30,21 @@ head_words h =
 abbrev pub key_words : Point → List ℕ
 key_words p = p.form ∷ p.octets.start ∷ p.octets.length ∷ []
 
-abbrev pub assurance_words : Assurance → List ℕ
-assurance_words a = flag_of a.given ∷ a.level ∷ []
+-- whether a level is given, and which; 0 where none is
+abbrev pub assurance_words : Option ℕ → List ℕ
+assurance_words None = 0 ∷ 0 ∷ []
+assurance_words (Some level) = 1 ∷ level ∷ []
 
--- form, start, and the end in two words, of which the second holds its low 32 bits
-abbrev pub period_words : Period → List ℕ
-period_words p = p.form ∷ p.start ∷ p.end / 2 ^ 32 ∷ p.end ∷ []
+-- form, start, and the end in two words, of which the second holds its low 32 bits; zeros where no period is given
+abbrev pub period_words : Option Period → List ℕ
+period_words None = 0 ∷ 0 ∷ 0 ∷ 0 ∷ []
+period_words (Some p) = p.form ∷ p.start ∷ p.end / 2 ^ 32 ∷ p.end ∷ []
 
 abbrev pub area_words : Bool → ℕ → List ℕ
 area_words given count = flag_of given ∷ count ∷ []
 
 abbrev pub edge_words : Rectangle → List ℕ
 edge_words q = pattern_of q.north ∷ pattern_of q.west ∷ pattern_of q.south ∷ pattern_of q.east ∷ []
-
--- a permission's ITS-AID, and the start and the length of its SSP
-abbrev pub cell_of : ℕ → Permission → ℕ
-cell_of which p = pick (eqb which 0) p.aid (pick (eqb which 1) p.ssp.start p.ssp.length)
 
 -- the signed range, the signature and its point type
 abbrev pub signature_words : Part → Signature → List ℕ
@@ -62,22 +63,29 @@ with_rectangles at rectangles l =
     (with_words (at + 4) (edge_words (get_or rectangles 1 unused))
     (with_words at (edge_words (get_or rectangles 0 unused)) l)))
 
+-- each permission's ITS-AID, and the start and the length of its SSP
 unfoldable pub with_permissions : List Permission → List ℕ → List ℕ
 with_permissions values l =
-    with_words 69 (map (cell_of 2) values) (with_words 53 (map (cell_of 1) values) (with_words 37 (map (cell_of 0) values) l))
+    with_words 69 (map (λ p. p.ssp.length) values)
+    (with_words 53 (map (λ p. p.ssp.start) values)
+    (with_words 37 (map (λ p. p.aid) values) l))
+
+-- how many they are, and these; zeros where no list is given
+unfoldable pub with_list : Option Permissions → List ℕ → List ℕ
+with_list None l = with_permissions (replicate 16 no-permission) (with_words 36 (0 ∷ []) l)
+with_list (Some p) l = with_permissions p.values (with_words 36 (p.count ∷ []) l)
 
 unfoldable pub with_attributes : Attributes → List ℕ → List ℕ
 with_attributes a l =
-    with_permissions a.permissions.values
-    (with_words 36 (a.permissions.count ∷ [])
+    with_list a.permissions
     (with_words 12 (assurance_words a.assurance)
     (with_words 9 (key_words a.encryption)
-    (with_words 6 (key_words a.key) l))))
+    (with_words 6 (key_words a.key) l)))
 
 unfoldable pub with_restrictions : Restrictions → List ℕ → List ℕ
 with_restrictions r l =
-    with_rectangles 20 r.area.region.rectangles
-    (with_words 18 (area_words r.area.given r.area.region.count) (with_words 14 (period_words r.period) l))
+    with_rectangles 20 (unwrap_or r.area everywhere).rectangles
+    (with_words 18 (area_words (is_some r.area) (unwrap_or r.area everywhere).count) (with_words 14 (period_words r.period) l))
 
 unfoldable pub with_fields : Certificate → List ℕ → List ℕ
 with_fields c l =

@@ -2,6 +2,7 @@
 use mathlib.Core.Path.{◌≡◌, refl, sym, ap, subst, ◌∙◌}
 use mathlib.Core.Bool.{Bool, true, false, not, ◌&&◌}
 use mathlib.Core.List.{List}
+use Rattle.std.specs.Prelude.{is_some}
 use Prim.Native.Nat.{ℕ, ◌+◌, ◌≤◌}
 use native.Mathlib.Omega.{arith}
 use borrow.Author.Tests.{leb-true}
@@ -172,7 +173,7 @@ known s m next h =
     let j = trailer_inside s t.1 u.0 u.1 u.2 in
     let v = need_got 5 (leb (length s) u.1) _ u.3 in
     let e = same v.1 in
-    let k = all_three (not (eqb x.signer.form 0)) x.fields.generation.given x.fields.aid.given i.0 in (
+    let k = all_three (not (eqb x.signer.form 0)) (is_some x.fields.generation) (is_some x.fields.aid) i.0 in (
       subst (λ (y : Message). Inside s y) e.0
           (record {
             short = leb-true (length s) 2048 p.0;

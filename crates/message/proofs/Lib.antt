@@ -1,2 +1,4 @@
+pub mod Slices
 pub mod Inside
 pub mod Forward
+pub mod Parts

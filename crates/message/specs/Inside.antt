@@ -1,5 +1,5 @@
 -- What is known of a message that was read: its parts lie inside it, and it names its signer.
-use Rattle.std.specs.Prelude.{ℕ, ◌+◌, ◌≤◌, ◌≡◌, true, List, length, take}
+use Rattle.std.specs.Prelude.{ℕ, ◌+◌, ◌≤◌, ◌≡◌, List, length, take, IsSome}
 use Rattle.octets.specs.Reading.{got}
 use Rattle.octets.specs.Vectors.{part, nowhere}
 use Rattle.certificate.specs.Certificates.{certificate_at}
@@ -33,5 +33,5 @@ pub record Inside (s : List ℕ) (m : Message) : Type 0 where
   pub whole : m.signature.octets.length ≡ 66
   pub signed : m.signed ≡ part 0 m.signature.octets.start
   pub signer : SignedBy s m.headers.signer
-  pub dated : m.headers.fields.generation.given ≡ true
-  pub named : m.headers.fields.aid.given ≡ true
+  pub dated : IsSome m.headers.fields.generation
+  pub named : IsSome m.headers.fields.aid

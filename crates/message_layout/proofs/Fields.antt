@@ -6,10 +6,11 @@ use mathlib.Core.Option.{Option, none, some}
 use lib.ListN.{length, get_or}
 use Rattle.octets.specs.Reading.{got, bind}
 use Rattle.octets.specs.Numbers.{intx_at}
-use Rattle.headers.specs.Times.{undated, unexpiring, generation_at, deviation_at, expiration_at}
-use Rattle.headers.specs.Locations.{unlocated, location_at}
+use Rattle.std.specs.Prelude.{None, Option as OptionRead}
+use Rattle.headers.specs.Times.{generation_at, deviation_at, expiration_at}
+use Rattle.headers.specs.Locations.{location_at}
 use Rattle.headers.specs.Digests.{digests_at}
-use Rattle.headers.specs.Aids.{unnamed, aid_at}
+use Rattle.headers.specs.Aids.{aid_at}
 use Rattle.headers.specs.Fields.{stray_of, fields_in}
 use Rattle.headers.specs.declared.fields.Fields.{Fields}
 use Rattle.writing.specs.Written.{intx_octets}
@@ -24,9 +25,9 @@ use Rattle.layout.specs.WellFormed.{Time32}
 use Rattle.message_layout.specs.Contents.{Deviation, Location}
 use Rattle.message_layout.specs.WellFormed.{Time64, WellFormedDeviation, WellFormedLocation, WellFormedDigests}
 use Rattle.message_layout.specs.Layout.{generation_octets, deviation_octets, expiration_octets, location_octets, digest_octets, digests_octets}
-use Rattle.message_layout.specs.Fields.{generation_fields, second_fields, expiration_fields, place_fields, location_fields, aid_fields}
+use Rattle.message_layout.specs.Fields.{option_fields, number_fields, location_fields}
 use Rattle.message_layout.proofs.Times.{generation_exact, deviation_exact, expiration_exact}
-use Rattle.message_layout.proofs.Locations.{place_exact}
+use Rattle.message_layout.proofs.Locations.{location_exact}
 use Rattle.message_layout.proofs.Digests.{digests_exact}
 
 -- what a vector gives that may lack required headers
@@ -55,56 +56,44 @@ given_octets x =
     ++ (element_octets 4 digests_octets x.digests
     ++ element_octets 5 intx_octets x.aid))))
 
--- of an element whose position does not matter
-abbrev pub value_of : {A X : Type 0} → A → (X → A) → Option X → A
-value_of absent value none = absent
-value_of absent value (some x) = value x
-
-value_anywhere : {A X : Type 0} (absent : A) (value : X → A) (at : ℕ) (z : Option X) → element_value absent (λ at. value) at z ≡ value_of absent value z
-value_anywhere absent value at none = refl
-value_anywhere absent value at (some x) = refl
-
-expiration_anywhere : (at : ℕ) (z : Option ℕ) → element_value unexpiring (λ at. second_fields) at z ≡ expiration_fields z
-expiration_anywhere at none = refl
-expiration_anywhere at (some second) = refl
-
-location_anywhere : (at : ℕ) (z : Option Location) → element_value unlocated (λ at. place_fields) at z ≡ location_fields z
-location_anywhere at none = refl
-location_anywhere at (some l) = refl
+-- its position does not matter
+option_anywhere : {A X : Type 0} (value : X → OptionRead A) (at : ℕ) (z : Option X) → element_value None (λ at. value) at z ≡ option_fields value z
+option_anywhere value at none = refl
+option_anywhere value at (some x) = refl
 
 abbrev pub given_fields : Given → Fields
 given_fields x =
     record {
-      generation = value_of undated generation_fields x.generation;
-      expiration = expiration_fields x.expiration;
-      location = location_fields x.location;
-      aid = value_of unnamed aid_fields x.aid;
+      generation = option_fields number_fields x.generation;
+      expiration = option_fields number_fields x.expiration;
+      location = option_fields location_fields x.location;
+      aid = option_fields number_fields x.aid;
     }
 
-aid_exact : Exact (λ v. v < 2 ^ 28) intx_octets (λ at. aid_fields) (λ s b. bind (intx_at s b) (λ value next. got (aid_fields value) next))
-aid_exact = exactly (last (λ a value n. aid_fields value) (before intx_exact)) (λ x rest g. tt)
+aid_exact : Exact (λ v. v < 2 ^ 28) intx_octets (λ at. number_fields) (λ s b. bind (intx_at s b) (λ value next. got (number_fields value) next))
+aid_exact = exactly (last (λ a value n. number_fields value) (before intx_exact)) (λ x rest g. tt)
 
 -- nothing follows them in their container
 pub fields_exact : ExactBefore WellFormedGiven given_octets (λ at. given_fields) (λ x rest. rest ≡ []) fields_in
 unfolding fields_in generation_at deviation_at expiration_at location_at digests_at aid_at
 fields_exact =
-    reshape_before (seq _ (optional_exact 0 undated generation_exact) (λ at t g.
+    reshape_before (seq _ (optional_exact 0 None generation_exact) (λ at t g.
     seq _ (optional_exact 1 0 deviation_exact) (λ a d h.
-    seq _ (optional_exact 2 unexpiring expiration_exact) (λ b e i.
-    seq _ (optional_exact 3 unlocated place_exact) (λ c l j.
+    seq _ (optional_exact 2 None expiration_exact) (λ b e i.
+    seq _ (optional_exact 3 None location_exact) (λ c l j.
     seq _ (optional_exact 4 0 digests_exact) (λ p ds k.
-    seq _ (optional_exact 5 unnamed aid_exact) (λ q v m.
+    seq _ (optional_exact 5 None aid_exact) (λ q v m.
     end (λ s n. stray_of (get_or s n 0)) (λ n. record {
-      generation = element_value undated (λ at. generation_fields) at t;
-      expiration = element_value unexpiring (λ at. second_fields) b e;
-      location = element_value unlocated (λ at. place_fields) c l;
-      aid = element_value unnamed (λ at. aid_fields) q v;
+      generation = element_value None (λ at. number_fields) at t;
+      expiration = element_value None (λ at. number_fields) b e;
+      location = element_value None (λ at. location_fields) c l;
+      aid = element_value None (λ at. number_fields) q v;
     }))))))))
     (record {
       to = λ x. (x.generation, (x.deviation, (x.expiration, (x.location, (x.digests, (x.aid, tt))))));
       good = λ x g. (g.generation, (g.deviation, (g.expiration, (g.location, (g.digests, (g.aid, tt))))));
       writes = λ x g. simp append-nil;
-      values = λ at x g. simp (value_anywhere, expiration_anywhere, location_anywhere);
+      values = λ at x g. simp option_anywhere;
       onto = λ x g. (
         record { generation = x.0; deviation = x.1.0; expiration = x.1.1.0; location = x.1.1.1.0; digests = x.1.1.1.1.0; aid = x.1.1.1.1.1.0 },
         record { generation = g.0; deviation = g.1.0; expiration = g.1.1.0; location = g.1.1.1.0; digests = g.1.1.1.1.0; aid = g.1.1.1.1.1.0 },

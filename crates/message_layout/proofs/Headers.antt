@@ -6,8 +6,7 @@ use mathlib.Core.List.{List, ◌++◌, append-nil}
 use mathlib.Core.Option.{Option, none, some}
 use lib.Dec.{eqb}
 use lib.ListN.{length}
-use Rattle.headers.specs.Times.{undated}
-use Rattle.headers.specs.Aids.{unnamed}
+use Rattle.std.specs.Prelude.{is_some}
 use Rattle.message.specs.Signers.{unsigned}
 use Rattle.message.specs.Vectors.{headers_in, headers_at, complete_headers}
 use Rattle.message.specs.Vectors.{Headers}
@@ -20,7 +19,7 @@ use Rattle.writing.proofs.Shapes.{contained, reshape_in}
 use Rattle.message_layout.specs.Contents.{Signer, named, carried}
 use Rattle.message_layout.specs.WellFormed.{WellFormedSigner}
 use Rattle.message_layout.specs.Layout.{signer_octets}
-use Rattle.message_layout.specs.Fields.{signer_fields, generation_fields, aid_fields}
+use Rattle.message_layout.specs.Fields.{signer_fields, option_fields, number_fields}
 use Rattle.message_layout.proofs.Fields as others
 use Rattle.message_layout.proofs.Signers.{signer_exact}
 
@@ -80,13 +79,9 @@ signer_there at none = refl
 signer_there at (some (named id)) = refl
 signer_there at (some (carried x)) = refl
 
-generation_there : (z : Option ℕ) → (others.value_of undated generation_fields z).given ≡ there z
-generation_there none = refl
-generation_there (some t) = refl
-
-aid_there : (z : Option ℕ) → (others.value_of unnamed aid_fields z).given ≡ there z
-aid_there none = refl
-aid_there (some v) = refl
+number_there : (z : Option ℕ) → is_some (option_fields number_fields z) ≡ there z
+number_there none = refl
+number_there (some n) = refl
 
 pub headers_complete : (at : ℕ) (x : Given) → complete_headers (given_fields at x) ≡ required x
-headers_complete at x = rw (signer_there at x.signer, generation_there x.fields.generation, aid_there x.fields.aid)
+headers_complete at x = rw (signer_there at x.signer, number_there x.fields.generation, number_there x.fields.aid)

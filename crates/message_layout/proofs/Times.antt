@@ -17,13 +17,13 @@ use Rattle.writing.proofs.Shapes.{before, exactly, reshape}
 use Rattle.layout.specs.WellFormed.{Time32}
 use Rattle.message_layout.specs.WellFormed.{Time64, WellFormedDeviation}
 use Rattle.message_layout.specs.Layout.{generation_octets, deviation_octets, expiration_octets}
-use Rattle.message_layout.specs.Fields.{generation_fields, second_fields}
+use Rattle.message_layout.specs.Fields.{number_fields}
 
-pub generation_exact : Exact Time64 generation_octets (λ at. generation_fields) (λ s b. bind (unsigned_at 8 s b) (λ time next. got (generation_fields time) next))
-generation_exact = exactly (last (λ a time n. generation_fields time) (before (unsigned_exact 8 (omega arith)))) (λ x rest g. tt)
+pub generation_exact : Exact Time64 generation_octets (λ at. number_fields) (λ s b. bind (unsigned_at 8 s b) (λ time next. got (number_fields time) next))
+generation_exact = exactly (last (λ a time n. number_fields time) (before (unsigned_exact 8 (omega arith)))) (λ x rest g. tt)
 
-pub expiration_exact : Exact Time32 expiration_octets (λ at. second_fields) (λ s b. bind (unsigned_at 4 s b) (λ second next. got (second_fields second) next))
-expiration_exact = exactly (last (λ a second n. second_fields second) (before (unsigned_exact 4 (omega arith)))) (λ x rest g. tt)
+pub expiration_exact : Exact Time32 expiration_octets (λ at. number_fields) (λ s b. bind (unsigned_at 4 s b) (λ second next. got (number_fields second) next))
+expiration_exact = exactly (last (λ a second n. number_fields second) (before (unsigned_exact 4 (omega arith)))) (λ x rest g. tt)
 
 -- the value of a time whose octets are not read as a number
 pub deviation_exact : Exact {A = ℕ} WellFormedDeviation deviation_octets (λ at d. 0) (λ s b. bind (run_at 8 s b) (λ time a. bind (octet_at s a) (λ deviation next. got 0 next)))

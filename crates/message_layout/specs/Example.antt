@@ -1,5 +1,5 @@
 -- A worked example: a message that names its signer by id, what it says, how it is written and what is read of it.
-use Rattle.std.specs.Prelude.{ℕ, ◌≡◌, true, List, [], ◌∷◌, pos, neg_ℤ}
+use Rattle.std.specs.Prelude.{ℕ, ◌≡◌, List, [], ◌∷◌, pos, neg_ℤ, Some}
 use Rattle.std.proofs.Math.Option.{some}
 use Rattle.octets.specs.Reading.{got}
 use Rattle.octets.specs.Vectors.{part}
@@ -52,10 +52,10 @@ fields =
       headers = record {
         signer = record { form = 1; digest = part 4 8; certificate = blank };
         fields = record {
-          generation = record { given = true; time = 694700000500000 };
-          expiration = record { given = true; second = 694700010 };
-          location = record { given = true; latitude = pos 641466000; longitude = neg_ℤ (pos 219426000) };
-          aid = record { given = true; value = 36 };
+          generation = Some 694700000500000;
+          expiration = Some 694700010;
+          location = Some (record { latitude = pos 641466000; longitude = neg_ℤ (pos 219426000) });
+          aid = Some 36;
         };
       };
       payload = part 59 9;

@@ -1,15 +1,10 @@
 -- What is read of a message: its contents, with parts of the input for octets. Of a header 1, of digests and of the elevation
 -- nothing is kept.
-use Rattle.std.specs.Prelude.{ℕ, ◌+◌, true, length}
+use Rattle.std.specs.Prelude.{ℕ, ◌+◌, length, Some, None, Option as OptionRead}
 use Rattle.std.proofs.Math.Option.{Option, none, some}
 use Rattle.octets.specs.Vectors.{part, nowhere}
 use Rattle.certificate.specs.Certificates.{blank}
-use Rattle.headers.specs.Times.{unexpiring}
-use Rattle.headers.specs.Locations.{unlocated}
-use Rattle.headers.specs.declared.times.Generation.{Generation}
-use Rattle.headers.specs.declared.times.Expiration.{Expiration}
-use Rattle.headers.specs.declared.locations.Location.{Location as LocationRead}
-use Rattle.headers.specs.declared.aids.Aid.{Aid}
+use Rattle.geo.specs.declared.Position.{Position}
 use Rattle.headers.specs.declared.fields.Fields.{Fields}
 use Rattle.message.specs.Signers.{Signer as SignerRead}
 use Rattle.message.specs.Messages.{Message}
@@ -24,34 +19,29 @@ abbrev pub signer_fields : ℕ → Signer → SignerRead
 signer_fields at (named id) = record { form = 1; digest = part (at + 1) 8; certificate = blank }
 signer_fields at (carried x) = record { form = 2; digest = nowhere; certificate = certificate.fields_at (at + 1) x }
 
-abbrev pub generation_fields : ℕ → Generation
-generation_fields time = record { given = true; time = time }
+-- a header that may be missing, by what is read of it where it is there
+abbrev pub option_fields : {X A : Type 0} → (X → OptionRead A) → Option X → OptionRead A
+option_fields value none = None
+option_fields value (some x) = value x
 
-abbrev pub second_fields : ℕ → Expiration
-second_fields second = record { given = true; second = second }
+-- a time, or an its_aid
+abbrev pub number_fields : ℕ → OptionRead ℕ
+number_fields n = Some n
 
-abbrev pub expiration_fields : Option ℕ → Expiration
-expiration_fields none = unexpiring
-expiration_fields (some second) = second_fields second
+abbrev pub place_fields : Location → Position
+place_fields l = record { latitude = l.latitude; longitude = l.longitude }
 
-abbrev pub place_fields : Location → LocationRead
-place_fields l = record { given = true; latitude = l.latitude; longitude = l.longitude }
-
-abbrev pub location_fields : Option Location → LocationRead
-location_fields none = unlocated
-location_fields (some l) = place_fields l
-
-abbrev pub aid_fields : ℕ → Aid
-aid_fields aid = record { given = true; value = aid }
+abbrev pub location_fields : Location → OptionRead Position
+location_fields l = Some (place_fields l)
 
 -- of the headers after the signer
 abbrev pub header_fields : Contents → Fields
 header_fields c =
     record {
-      generation = generation_fields c.generation;
-      expiration = expiration_fields c.expiration;
-      location = location_fields c.location;
-      aid = aid_fields c.aid;
+      generation = number_fields c.generation;
+      expiration = option_fields number_fields c.expiration;
+      location = option_fields location_fields c.location;
+      aid = number_fields c.aid;
     }
 
 -- before the signer's type stand the version, the length of the headers and the type 128; before the payload's length its type 1

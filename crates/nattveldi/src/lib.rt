@@ -3,9 +3,12 @@
 
 pub use admission::{admit, install};
 pub use certificate::certificates::Certificate;
-pub use certificate::operations::{Identified, Reading, id, read};
-pub use overview::{SlotReading, standing, stored};
+pub use certificate::operations::{id, read};
+pub use geo::Position;
+pub use octets::refusals::Refusal;
+pub use overview::{standing, stored};
 pub use page_text::page;
+pub use records::Record;
 pub use slot_lists::Listed;
-pub use verification::{Decision, Prepared, Question, decide, payload, prepare};
+pub use verification::{Decision, Prepared, Question, Situation, decide, payload, prepare};
 pub use withdrawal::{list, withdraw};

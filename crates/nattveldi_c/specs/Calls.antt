@@ -4,19 +4,14 @@ use Rattle.std.specs.Prelude.{ℕ, List, length, ltb, eqb, ℤ, pos, neg_ℤ}
 use Rattle.octets.specs.Refusals.{ACCEPTED, BAD_CALL}
 use Rattle.octets.specs.Reading.{pick}
 use Rattle.octets.specs.Buffers.{with_front}
-use Rattle.certificate.specs.Operations.{reading_of, id_of}
-use Rattle.certificate.specs.declared.operations.Reading.{Reading}
-use Rattle.certificate.specs.declared.operations.Identified.{Identified}
+use Rattle.certificate.specs.Operations.{Reading, reading_of, Identified, id_of}
 use Rattle.field_words.specs.Fields.{with_fields, fields_length}
-use Rattle.verification.specs.Order.{preparation, decision}
+use Rattle.verification.specs.Order.{Prepared, preparation, Decision, decision}
 use Rattle.verification.specs.declared.judging.Situation.{Situation}
-use Rattle.verification.specs.declared.operations.Prepared.{Prepared}
-use Rattle.verification.specs.declared.operations.Decision.{Decision}
 use Rattle.answer_words.specs.Answers.{with_questions, with_decision, questions_length, decision_length}
 use Rattle.answer_words.specs.Slots.{with_stored, stored_length}
 use Rattle.slot_lists.specs.Listings.{Listing}
-use Rattle.overview.specs.Order.{slot_reading, standing_listing}
-use Rattle.overview.specs.declared.operations.SlotReading.{SlotReading}
+use Rattle.overview.specs.Order.{SlotReading, slot_reading, standing_listing}
 use Rattle.withdrawal.specs.Order.{page}
 
 abbrev pub Call : Type 0

@@ -1,5 +1,5 @@
 -- Stored and standing, for a page that lists certificates (docs/DECISIONS.md 96): their orders of checks, and what each answers.
-use Rattle.std.specs.Prelude.{List, ℕ, length, replicate, eqb, leb, ltb}
+use Rattle.std.specs.Prelude.{List, ℕ, length, replicate, eqb, leb, ltb, Result, Ok, Err}
 use Rattle.order.specs.Steps.{Answer, gives, refused, Steps, done, need, run, Well, well}
 use Rattle.octets.specs.Refusals.{ACCEPTED, BAD_CALL, BAD_STORE, UNKNOWN}
 use Rattle.geo.specs.Area.{unused}
@@ -11,7 +11,8 @@ use Rattle.validity.specs.Valid.{valid_store}
 use Rattle.chain.specs.Stored.{stands}
 use Rattle.slot_lists.specs.SlotSets.{slots_from}
 use Rattle.slot_lists.specs.Listings.{Listing, refused_list, written}
-use Rattle.overview.specs.declared.operations.SlotReading.{SlotReading}
+use Rattle.octets.specs.Outcomes.{number_of}
+use Rattle.octets.specs.declared.refusals.Refusal.{Refusal}
 
 -- ---- stored
 
@@ -42,8 +43,18 @@ no_record =
       key = record { parity = 0; octets = replicate KEY.count 0 };
     }
 
+-- the number, and all that the slot holds
+pub record SlotReading : Type 0 where
+  pub number : ℕ
+  pub contents : Record
+
 abbrev pub unread : ℕ → SlotReading
 unread k = record { number = k; contents = no_record }
+
+-- what the code's answer says
+abbrev pub slot_answer : Result Record Refusal → SlotReading
+slot_answer (Ok r) = record { number = ACCEPTED; contents = r }
+slot_answer (Err e) = unread (number_of e)
 
 abbrev pub read_from : Answer Record → SlotReading
 read_from (gives r) = record { number = ACCEPTED; contents = r }

@@ -5,4 +5,4 @@ mod links; // where the walk goes from each slot
 mod levels; // from which slots a root is reached, one certificate more at a time
 mod operations; // the two operations
 
-pub use operations::{SlotReading, standing, stored};
+pub use operations::{standing, stored};

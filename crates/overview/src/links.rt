@@ -1,56 +1,49 @@
-ghost use Rattle.std.specs.Prelude.{◌≡◌, true, ◌<◌, eqb};
-ghost use Rattle.octets.specs.Reading.{pick};
-ghost use Rattle.store.specs.Slots.{slot_count};
+ghost use Rattle.std.specs.Prelude.{◌≡◌, true};
 ghost use Rattle.validity.specs.Valid.{valid_store};
-ghost use Rattle.overview.specs.Computed.{AT_ROOT, NO_WAY, link_at, Links};
+ghost use Rattle.overview.specs.Computed.{link_at, Links};
 
-use chain::steps::{Up, step_at};
-use chain::subjects::Place;
-use chain::walking::{FOLLOWERS, NO_SLOT};
-use octets::refusals::ACCEPTED;
-use store::sizes::SLOTS;
+use chain::steps::step_at;
+use chain::subjects::Conditions;
+use chain::walking::FOLLOWERS;
+use store::sizes::{SLOTS, STORE_LENGTH};
+use store::slot::Slot;
 use store::slots::filled;
 
-// The link of a slot is the slot of its issuer, or one of two numbers above all slots: the walk ends well there, at a root; or it does
-// not go on.
-pub const AT_ROOT: u8 = 64;
-
-const NO_WAY: u8 = 65;
-
-// A walk that ends at a slot by a number.
-fn ended(number: u8) -> u8
-    ensures { result ≡ pick (eqb number 0) AT_ROOT NO_WAY }
-{
-    if number == ACCEPTED {
-        return AT_ROOT;
-    }
-    NO_WAY
+// Where the walk goes from a slot: not on; to its end, at a root; or to the slot of its issuer.
+// Kept: the slot as one octet: with a Slot the 64 links take 1,024 octets of stack, and standing passes its limit.
+#[derive(Clone, Copy)]
+pub enum Link {
+    NoWay,
+    AtRoot,
+    To(u8),
 }
 
 // The link of a slot at a second.
-fn link_at(store: &[u8], slot: usize, second: u64) -> u8
-    requires { (slot < slot_count) × (valid_store store.now ≡ true) }
+fn link_at(store: &[u8; STORE_LENGTH], slot: Slot, second: u64) -> Link
+    requires { valid_store store.now ≡ true }
     ensures { result ≡ link_at store.now second slot }
 {
     if !filled(store, slot) {
-        return NO_WAY;
+        return Link::NoWay;
     }
-    match step_at(store, slot, second, Place::Anywhere, FOLLOWERS, NO_SLOT) {
-        Up::On(issuer) => issuer as u8,
-        Up::Stop(number) => ended(number),
+    let asked = Conditions {
+        second,
+        place: None,
+        gone: None,
+    };
+    match step_at(store, slot, &asked, FOLLOWERS) {
+        Ok(Some(issuer)) => Link::To(issuer.index() as u8),
+        Ok(None) => Link::AtRoot,
+        Err(_) => Link::NoWay,
     }
 }
 
-// The links of all slots: each certificate is looked at once.
-pub fn links_at(store: &[u8], second: u64) -> [u8; SLOTS]
+// The links of all slots: each certificate is looked at once. The array is lent: one that is returned stands on the stack twice.
+pub fn write_links(store: &[u8; STORE_LENGTH], second: u64, links: &mut [Link; SLOTS])
     requires { valid_store store.now ≡ true }
-    ensures { Links store.now second result }
+    ensures { Links store.now second links.new }
 {
-    let mut links = [NO_WAY; SLOTS];
-    let mut i = 0;
-    while i < SLOTS {
-        links[i] = link_at(store, i, second);
-        i += 1;
+    for (i, link) in links.iter_mut().enumerate() {
+        *link = link_at(store, Slot::at(i), second);
     }
-    links
 }

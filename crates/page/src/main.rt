@@ -3,11 +3,10 @@
 // a contract can name; which octets the system gives and takes, no contract says.
 #![tactic(auto)]
 
-ghost use Rattle.std.specs.Prelude.{◌≡◌, ◌+◌, ◌<◌, length, take, OnOk, IfSome};
+ghost use Rattle.std.specs.Prelude.{◌≡◌, ◌+◌, ◌≤◌, ◌<◌, length, take, OnOk, IfOk, IfSome};
 ghost use Rattle.std.specs.Io.KnownBytes.{Appends, Consumes, IsAtEnd};
 ghost use Rattle.page_text.specs.Page.{input_length, page_text};
 ghost use Rattle.page_text.specs.Sizes.{page_length};
-ghost use Rattle.page.specs.Inputs.{Inside, OnOctets};
 
 use page_text::page;
 use page_text::sizes::{INPUT_LENGTH, PAGE_LENGTH};
@@ -15,14 +14,6 @@ use std::io::{Read, Write};
 use std::{fmt, io};
 
 const INPUT_ROOM: usize = INPUT_LENGTH + 1;
-
-// How many octets were read up to the end of the input or of the room for it, or that a read
-// failed.
-#[derive(Clone, Copy)]
-enum Input {
-    Octets(usize),
-    Failed,
-}
 
 // Why no page, or only a part of one, was printed.
 #[derive(Clone, Copy)]
@@ -40,37 +31,23 @@ impl fmt::Display for Failure {
     }
 }
 
-// One read: how many octets came, none at the end of the input.
-fn read_some<R: Read>(reader: &mut R, buffer: &mut [u8]) -> Input
-    ensures inside { Inside result (length buffer.new) }
-    ensures octets { OnOctets result
-        (λ n. Consumes (R.remaining reader.old) (R.remaining reader.new) (take n buffer.new)) }
-    ensures end { OnOctets result
-        (λ n. n ≡ 0 → 0 < length buffer.new → IsAtEnd (R.remaining reader.new)) }
-{
-    match reader.read(buffer) {
-        Ok(n) => Input::Octets(n),
-        Err(_) => Input::Failed,
-    }
-}
-
 // Reads to the end of the input, or until the buffer is full.
-fn read_input<R: Read>(reader: &mut R, buffer: &mut [u8]) -> Input
-    ensures inside { Inside result (length buffer.new) }
-    ensures octets { OnOctets result
+// Kept: a while, since how much a read gives is not known before it.
+fn read_input<R: Read>(reader: &mut R, buffer: &mut [u8]) -> io::Result<usize>
+    ensures inside { IfOk result (λ n. n ≤ length buffer.new) }
+    ensures octets { IfOk result
         (λ n. Consumes (R.remaining reader.old) (R.remaining reader.new) (take n buffer.new)) }
-    ensures end { OnOctets result
+    ensures end { IfOk result
         (λ n. n < length buffer.new → IsAtEnd (R.remaining reader.new)) }
 {
     let mut n = 0;
     while n < buffer.len() {
-        match read_some(reader, &mut buffer[n..]) {
-            Input::Octets(0) => return Input::Octets(n),
-            Input::Octets(k) => n += k,
-            Input::Failed => return Input::Failed,
+        match reader.read(&mut buffer[n..])? {
+            0 => return Ok(n),
+            k => n += k,
         }
     }
-    Input::Octets(n)
+    Ok(n)
 }
 
 // Room for one octet more than an input has, so that a longer one is seen. The length is given as
@@ -103,13 +80,8 @@ fn answer<R: Read, W: Write>(reader: &mut R, writer: &mut W) -> Result<(), Failu
         (λ input. Appends (W.contents writer.old) (W.contents writer.new) (page_text input))) }
 {
     let mut buffer = room_for_input();
-    let Input::Octets(n) = read_input(reader, &mut buffer) else {
-        return Err(Failure::Reading);
-    };
-    match print_page(writer, &buffer[..n]) {
-        Ok(()) => Ok(()),
-        Err(_) => Err(Failure::Writing),
-    }
+    let n = read_input(reader, &mut buffer).map_err(|_| Failure::Reading)?;
+    print_page(writer, &buffer[..n]).map_err(|_| Failure::Writing)
 }
 
 // The exit status is 0 in each case. Where the message cannot be written either, nobody is told.

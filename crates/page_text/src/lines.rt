@@ -1,19 +1,25 @@
 ghost use Rattle.std.specs.Prelude.{◌≡◌, ◌++◌, ℕ, ◌+◌, ◌*◌, ◌≤◌, ◌<◌, length, get_or};
+ghost use Rattle.octets.specs.Outcomes.{number_of};
 ghost use Rattle.text.specs.Text.{Written};
 ghost use Rattle.records.specs.Layout.{ID};
 ghost use Rattle.records.specs.Records.{record_of};
-ghost use Rattle.store.specs.Slots.{slot_count, store_length, slot_of};
+ghost use Rattle.store.specs.Slots.{slot_count, slot_of};
 ghost use Rattle.page_text.specs.Lines.{kind_word, name_of, line_of, lines_of, head_of, count_of, refused_of};
 ghost use Rattle.page_text.specs.Sizes.{name_length, kind_length, line_length, head_length, count_length, refusal_length, page_length};
 
 use octets::kinds::{AUTHORITY, ROOT};
+use octets::refusals::Refusal;
 use records::layout::NAME_ROOM;
 use records::{Name, Record};
+use store::sizes::STORE_LENGTH;
+use store::slot::Slot;
 use store::slots::record_at;
 use text::decimal::write_decimal;
 use text::hexadecimal::write_hex;
 use text::pieces::{write_octet, write_text};
 
+// Kept: a number is compared, no enum, since the octets of a store that is not valid may hold any.
+#[tactic(auto, using(crate::proofs::Printed::kind_root, crate::proofs::Printed::kind_authority, crate::proofs::Printed::kind_ticket))]
 fn write_kind(text: &mut [u8], at: usize, kind: u8) -> usize
     requires { at + kind_length ≤ length text.old }
     ensures { Written text.old at (kind_word kind) result text.new }
@@ -28,6 +34,7 @@ fn write_kind(text: &mut [u8], at: usize, kind: u8) -> usize
 }
 
 // A length above the room of a name, which no valid store has, ends with it.
+#[tactic(auto, using(crate::proofs::Printed::name_none, crate::proofs::Printed::name_some, crate::proofs::Printed::name_all))]
 fn write_name(text: &mut [u8], at: usize, name: Name) -> usize
     requires { at + name_length ≤ length text.old }
     ensures { Written text.old at (name_of name) result text.new }
@@ -44,6 +51,7 @@ fn write_name(text: &mut [u8], at: usize, name: Name) -> usize
 }
 
 // The line of a certificate.
+#[tactic(auto, using(crate::proofs::Printed::decimal_two, crate::proofs::Printed::kind_fits, crate::proofs::Printed::name_fits, text::proofs::Hex::hex_long))]
 fn write_certificate(text: &mut [u8], at: usize, slot: u32, r: Record) -> usize
     requires { (slot < slot_count) × (at + line_length ≤ length text.old) }
     ensures { Written text.old at (line_of slot r) result text.new }
@@ -62,27 +70,27 @@ fn write_certificate(text: &mut [u8], at: usize, slot: u32, r: Record) -> usize
 }
 
 // The line of the certificate in a slot.
-fn write_line(text: &mut [u8], at: usize, store: &[u8], slot: u8) -> usize
-    requires { (slot < slot_count) × (length store.now ≡ store_length) × (at + line_length ≤ length text.old) }
+fn write_line(text: &mut [u8], at: usize, store: &[u8; STORE_LENGTH], slot: u8) -> usize
+    requires { (slot < slot_count) × (at + line_length ≤ length text.old) }
     ensures { Written text.old at (line_of slot (record_of (slot_of store.now slot))) result text.new }
 {
-    write_certificate(text, at, slot as u32, record_at(store, slot as usize))
+    let record = record_at(store, Slot::at(usize::from(slot)));
+    write_certificate(text, at, u32::from(slot), record)
 }
 
 // The lines of the certificates in these slots.
-fn write_lines(text: &mut [u8], at: usize, store: &[u8], slots: &[u8]) -> usize
-    requires { (length store.now ≡ store_length) × (at + line_length * length slots.now ≤ length text.old) × ((i : ℕ) → i < length slots.now → get_or slots.now i 0 < slot_count) }
+fn write_lines(text: &mut [u8], at: usize, store: &[u8; STORE_LENGTH], slots: &[u8]) -> usize
+    requires { (at + line_length * length slots.now ≤ length text.old) × ((i : ℕ) → i < length slots.now → get_or slots.now i 0 < slot_count) }
     ensures { Written text.old at (lines_of store.now slots.now) result text.new }
 {
     let mut end = at;
-    let mut i = 0;
-    while i < slots.len() {
-        end = write_line(text, end, store, slots[i]);
-        i += 1;
+    for slot in slots {
+        end = write_line(text, end, store, *slot);
     }
     end
 }
 
+#[tactic(auto, using(text::proofs::Hex::hex_long, text::proofs::Decimals::decimal_ten))]
 fn write_head(text: &mut [u8], id: &[u8], second: u32) -> usize
     requires { (length id.now ≡ ID.count) × (head_length ≤ length text.old) }
     ensures { Written text.old 0 (head_of id.now second) result text.new }
@@ -94,6 +102,7 @@ fn write_head(text: &mut [u8], id: &[u8], second: u32) -> usize
     write_octet(text, d, b'\n')
 }
 
+#[tactic(auto, using(text::proofs::Decimals::decimal_ten))]
 fn write_count(text: &mut [u8], at: usize, n: u32) -> usize
     requires { at + count_length ≤ length text.old }
     ensures { Written text.old at (count_of n) result text.new }
@@ -104,18 +113,25 @@ fn write_count(text: &mut [u8], at: usize, n: u32) -> usize
 }
 
 // The text of a refusal.
-pub fn write_refusal(text: &mut [u8], number: u8) -> usize
+#[tactic(auto, using(text::proofs::Decimals::decimal_ten))]
+pub fn write_refusal(text: &mut [u8], refusal: Refusal) -> usize
     requires { refusal_length ≤ length text.old }
-    ensures { Written text.old 0 (refused_of number) result text.new }
+    ensures { Written text.old 0 (refused_of (number_of refusal)) result text.new }
 {
     let a = write_text(text, 0, b"refused ");
-    let b = write_decimal(text, a, number as u32);
+    let b = write_decimal(text, a, u32::from(refusal.number()));
     write_octet(text, b, b'\n')
 }
 
 // The text of a list: the first line, a line for each of these slots, and the count.
-pub fn write_list(text: &mut [u8], id: &[u8], second: u32, store: &[u8], slots: &[u8]) -> usize
-    requires { (length id.now ≡ ID.count) × (length store.now ≡ store_length) × (length slots.now ≤ slot_count) × (page_length ≤ length text.old) × ((i : ℕ) → i < length slots.now → get_or slots.now i 0 < slot_count) }
+pub fn write_list(
+    text: &mut [u8],
+    id: &[u8],
+    second: u32,
+    store: &[u8; STORE_LENGTH],
+    slots: &[u8],
+) -> usize
+    requires { (length id.now ≡ ID.count) × (length slots.now ≤ slot_count) × (page_length ≤ length text.old) × ((i : ℕ) → i < length slots.now → get_or slots.now i 0 < slot_count) }
     ensures { Written text.old 0 (head_of id.now second ++ lines_of store.now slots.now ++ count_of (length slots.now)) result text.new }
 {
     let a = write_head(text, id, second);

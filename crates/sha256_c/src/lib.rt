@@ -6,8 +6,11 @@ ghost use Rattle.sha256_c.specs.Calls.{digest_call};
 
 use octets::buffers::write_front;
 
-// The digest of a message becomes the first 32 octets of a buffer, and the answer is 0; a shorter buffer stays, and the answer is 1.
+// The digest of a message becomes the first 32 octets of a buffer, and the answer is 0; a shorter
+// buffer stays, and the answer is 1.
+// Kept: a number for the answer, which C reads (`digest_call`).
 #[unsafe(no_mangle)]
+#[tactic(auto, unfolding(crate::specs::Calls::digest_call))]
 pub extern "C" fn sha256_digest(message: &[u8], digest: &mut [u8]) -> u8
     ensures { ◌≡◌ {A = ℕ × List ℕ} (result, digest.new) (digest_call message.now digest.old) }
 {

@@ -8,38 +8,29 @@ ghost use Rattle.std.specs.Prelude.{◌≡◌, length};
 use sha256::{digest, digest_with_zero_at, short_digest_with_zero_at};
 use std::io;
 
-fn print_octet(rt: &impl Print, x: u8) -> io::Result<()> {
-    print!(rt; "{x:02x}")
-}
-
-fn end_line(rt: &impl Print) -> io::Result<()> {
+fn print_octets(rt: &impl Print, s: &[u8]) -> io::Result<()> {
+    for x in s {
+        print!(rt; "{x:02x}")?;
+    }
     println!(rt)
 }
 
-fn print_octets(rt: &impl Print, s: &[u8]) -> io::Result<()> {
-    for x in s {
-        print_octet(rt, *x)?;
-    }
-    end_line(rt)
-}
-
 // What was hashed, and its digest.
-fn named(rt: &impl Print, name: &[u8], d: [u8; 32]) -> io::Result<()> {
-    rt.write_all(name)?;
-    print!(rt; ": ")?;
+fn named(rt: &impl Print, name: &str, d: [u8; 32]) -> io::Result<()> {
+    print!(rt; "{name}: ")?;
     print_octets(rt, &d)
 }
 
 // The digest of so many octets.
 fn counted(rt: &impl Print, s: &[u8]) -> io::Result<()> {
-    print!(rt; "{}", s.len())?;
-    named(rt, b" octets", digest(s))
+    print!(rt; "{} octets: ", s.len())?;
+    print_octets(rt, &digest(s))
 }
 
 // The digest with the octet at a place taken as 0, and its last eight octets.
 fn zeroed(rt: &impl Print, s: &[u8], place: usize) -> io::Result<()> {
-    print!(rt; "{} octets, 0 at {place}", s.len())?;
-    named(rt, b"", digest_with_zero_at(s, place))?;
+    print!(rt; "{} octets, 0 at {place}: ", s.len())?;
+    print_octets(rt, &digest_with_zero_at(s, place))?;
     print!(rt; "its last eight: ")?;
     print_octets(rt, &short_digest_with_zero_at(s, place))
 }
@@ -57,41 +48,28 @@ fn million(rt: &impl Print) -> io::Result<()> {
 }
 
 fn main(rt: HostRuntime) -> io::Result<()> {
-    named(&rt, b"abc", digest(b"abc"))?;
-    named(&rt, b"empty", digest(b""))?;
+    named(&rt, "abc", digest(b"abc"))?;
+    named(&rt, "empty", digest(b""))?;
     named(
         &rt,
-        b"448 bits",
+        "448 bits",
         digest(b"abcdbcdecdefdefgefghfghighijhijkijkljklmklmnlmnomnopnopq"),
     )?;
     named(
         &rt,
-        b"896 bits",
+        "896 bits",
         digest(
             b"abcdefghbcdefghicdefghijdefghijkefghijklfghijklmghijklmnhijklmnoijklmnopjklmnop\
               qklmnopqrlmnopqrsmnopqrstnopqrstu",
         ),
     )?;
     let a = [b'a'; 200];
-    counted(&rt, &a[..55])?;
-    counted(&rt, &a[..56])?;
-    counted(&rt, &a[..57])?;
-    counted(&rt, &a[..63])?;
-    counted(&rt, &a[..64])?;
-    counted(&rt, &a[..65])?;
-    counted(&rt, &a[..111])?;
-    counted(&rt, &a[..112])?;
-    counted(&rt, &a[..119])?;
-    counted(&rt, &a[..120])?;
-    counted(&rt, &a[..127])?;
-    counted(&rt, &a[..128])?;
-    zeroed(&rt, &a, 0)?;
-    zeroed(&rt, &a, 63)?;
-    zeroed(&rt, &a, 64)?;
-    zeroed(&rt, &a, 191)?;
-    zeroed(&rt, &a, 192)?;
-    zeroed(&rt, &a, 199)?;
-    zeroed(&rt, &a, 200)?;
+    for n in [55, 56, 57, 63, 64, 65, 111, 112, 119, 120, 127, 128] {
+        counted(&rt, &a[..n])?;
+    }
+    for place in [0, 63, 64, 191, 192, 199, 200] {
+        zeroed(&rt, &a, place)?;
+    }
     counted(&rt, &a)?;
     million(&rt)
 }

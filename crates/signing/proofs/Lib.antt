@@ -2,3 +2,4 @@ pub mod Numbers
 pub mod Copied
 pub mod Entitling
 pub mod Signed
+pub mod Recorded

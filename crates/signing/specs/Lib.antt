@@ -1,3 +1,4 @@
+pub mod Fields
 pub mod Times
 pub mod Places
 pub mod Copies

@@ -1,90 +1,85 @@
-ghost use Rattle.std.specs.Prelude.{◌≡◌, ◌<◌, length};
-ghost use Rattle.std.proofs.Math.Option.{some};
+ghost use Rattle.std.specs.Prelude.{◌≡◌, Some};
+ghost use Rattle.octets.specs.Outcomes.{answer_of};
 ghost use Rattle.records.specs.Records.{record_of};
-ghost use Rattle.store.specs.Slots.{slot_count, store_length, slot_of, id_at};
+ghost use Rattle.store.specs.Slots.{slot_of, id_at};
 ghost use Rattle.store.specs.Search.{find};
 ghost use Rattle.signing.specs.Signers.{subject_of};
 ghost use Rattle.signing.specs.Computed.{entitled_number};
 
+use crate::fields::{generated, its_aid};
 use crate::places::position_of;
 use crate::times::SECOND;
 use chain::issuers::allows_at;
 use chain::signers::walk;
-use chain::subjects::{Place, Position, Subject};
-use chain::walking::{FOLLOWERS, NO_SLOT, walk_at};
+use chain::subjects::{Conditions, Subject};
+use chain::walking::{FOLLOWERS, walk_at};
 use entries::as_number;
+use geo::Position;
 use headers::fields::Fields;
 use octets::kinds::TICKET;
-use octets::refusals::{ACCEPTED, NOT_PERMITTED, WRONG_KIND};
+use octets::refusals::Refusal;
 use records::Record;
-use scope::allows;
 use store::fields::kind_at;
+use store::sizes::STORE_LENGTH;
+use store::slot::Slot;
 
 // What a walk reads of a record.
-fn subject_of(r: Record) -> Subject
-    ensures { result ≡ subject_of r }
+#[tactic(auto, unfolding(crate::specs::Signers::subject_of))]
+fn subject_of(r: &Record) -> Subject
+    ensures { result ≡ subject_of r.now }
 {
-    let id = r.id;
-    let issuer = r.issuer;
-    let scope = r.scope;
     Subject {
-        id: as_number(id),
-        issuer: as_number(issuer),
-        scope,
+        id: as_number(r.id),
+        issuer: as_number(r.issuer),
+        scope: r.scope,
     }
 }
 
-// The tests of a stored signer: its kind, the walk from it, its_aid. The number of the refusal, or 0.
-pub fn entitled_at(store: &[u8], slot: usize, fields: Fields, own: Position) -> u8
-    requires { (slot < slot_count) × (length store.now ≡ store_length) × (find store.now (id_at store.now slot) ≡ some slot) }
-    ensures { result ≡ entitled_number store.now fields own (record_of (slot_of store.now slot)) }
+// The tests of a stored signer: its kind, the walk from it, its_aid.
+// Kept: beside `entitled`, for which the record would be decoded: a chain of eight took a tenth longer to decide.
+#[tactic(auto, using(octets::proofs::Outcomes::reading, chain::proofs::Own::none_also, store::proofs::Found::find_finds, crate::proofs::Entitling::slot_subject, crate::proofs::Entitling::entitled_tests), unfolding(records::specs::Records::record_of, records::specs::Records::scope_of))]
+pub fn entitled_at(
+    store: &[u8; STORE_LENGTH],
+    slot: Slot,
+    fields: &Fields,
+    own: Position,
+) -> Result<(), Refusal>
+    requires { find store.now (id_at store.now slot) ≡ Some slot }
+    ensures { answer_of result ≡ entitled_number store.now fields.now own (record_of (slot_of store.now slot)) }
 {
     if kind_at(store, slot) != TICKET {
-        return WRONG_KIND;
+        return Err(Refusal::WrongKind);
     }
-    let location = fields.location;
-    let place = Place::At(position_of(location, own));
-    let refusal = walk_at(
-        store,
-        slot,
-        fields.generation.time / SECOND,
-        place,
-        FOLLOWERS,
-        NO_SLOT,
-    );
-    if refusal != ACCEPTED {
-        return refusal;
+    let asked = Conditions {
+        second: generated(fields) / SECOND,
+        place: Some(position_of(fields.location, own)),
+        gone: None,
+    };
+    walk_at(store, slot, &asked, FOLLOWERS)?;
+    if !allows_at(store, slot, its_aid(fields)) {
+        return Err(Refusal::NotPermitted);
     }
-    if allows_at(store, slot, fields.aid.value) {
-        return ACCEPTED;
-    }
-    NOT_PERMITTED
+    Ok(())
 }
 
 // The same of a signer that need not be stored.
-pub fn entitled(store: &[u8], r: Record, fields: Fields, own: Position) -> u8
-    requires { length store.now ≡ store_length }
-    ensures { result ≡ entitled_number store.now fields own r }
+#[tactic(auto, using(octets::proofs::Outcomes::reading, crate::proofs::Entitling::entitled_tests))]
+pub fn entitled(
+    store: &[u8; STORE_LENGTH],
+    r: &Record,
+    fields: &Fields,
+    own: Position,
+) -> Result<(), Refusal>
+    ensures { answer_of result ≡ entitled_number store.now fields.now own r.now }
 {
-    let scope = r.scope;
-    if scope.kind != TICKET {
-        return WRONG_KIND;
+    if r.scope.kind != TICKET {
+        return Err(Refusal::WrongKind);
     }
-    let location = fields.location;
-    let place = Place::At(position_of(location, own));
-    let refusal = walk(
-        store,
-        subject_of(r),
-        fields.generation.time / SECOND,
-        place,
-        FOLLOWERS,
-    );
-    if refusal != ACCEPTED {
-        return refusal;
+    let second = generated(fields) / SECOND;
+    let place = Some(position_of(fields.location, own));
+    walk(store, &subject_of(r), second, place, FOLLOWERS)?;
+    if !r.scope.permissions.allows(its_aid(fields)) {
+        return Err(Refusal::NotPermitted);
     }
-    let permissions = scope.permissions;
-    if allows(permissions, fields.aid.value) {
-        return ACCEPTED;
-    }
-    NOT_PERMITTED
+    Ok(())
 }

@@ -1,6 +1,7 @@
 // The signer of a message, and what it may: in time and place, stored or carried, a ticket whose chain reaches a root, its_aid.
 #![tactic(auto)]
 
+pub mod fields; // what a message says that was read
 pub mod times; // whether a message is in time
 pub mod places; // where it is checked
 mod copies; // a carried certificate and its stored copy

@@ -4,11 +4,12 @@ use mathlib.Core.Logic.{◌⊎◌, inl, inr, ⊎_elim}
 use mathlib.Core.Bool.{Bool, true, false, cond, false≢true}
 use mathlib.Core.List.Memᴰ
 use mathlib.Core.List.{[], ◌∷◌, Memᴰ}
-use Prim.Native.Nat.{ℕ, zero, suc, ◌+◌, ◌*◌, ◌-◌, ◌^◌, ◌/◌, ◌%◌, ◌≤◌, ◌<◌, zero-le}
+use Prim.Native.Nat.{ℕ, zero, suc, ◌+◌, ◌*◌, ◌^◌, ◌/◌, ◌%◌, ◌≤◌, ◌<◌, zero-le}
 use native.Mathlib.Nat.{eq-or-lt_of_le, pow-suc, div-one}
 use native.Mathlib.Omega.{arith}
+use native.Mathlib.Numerals.{add-one}
 use lib.ListN.{length, get_or}
-use lib.Pow.{pow_mono, shr-shr}
+use lib.Pow.{shr-shr}
 use lib.Count.{ones, ones_step}
 use Rattle.slot_lists.specs.SlotSets.{slots_from}
 use Rattle.slot_lists.specs.Computed.{bit, bits_from}
@@ -20,6 +21,9 @@ bit_small false x e = omega arith
 
 bit_le : (b : Bool) → bit b ≤ 1
 bit_le b = bit_small b (bit b) refl
+
+twice : (b k : ℕ) → b * 2 ^ suc k ≡ b * 2 ^ k * 2
+twice b k = rw pow-suc (grind arith)
 
 module _ (p : ℕ → Bool) where
   -- a member is in the range and p holds at it
@@ -146,19 +150,18 @@ module _ (p : ℕ → Bool) where
       ones_step (bits_from p a (suc k)) ∙ ap (λ (n : ℕ). n + ones (bits_from p a (suc k) / 2)) (bits_mod a k)
       ∙ ap (λ (n : ℕ). bit (p a) + ones n) (bits_div a k) ∙ ap (λ (n : ℕ). bit (p a) + n) (ones_bits (suc a) k) ∙ length_cons a k (p a)
 
-  -- a loop that goes down from 64: before a turn the set is below 2 ^ 63, a turn, and the end
-  pub bits_top : (i x : ℕ) → 0 < i → i ≤ 64 → x ≡ bits_from p i (64 - i) → x < 2 ^ 63
-  bits_top i x l u e =
-      let h : 64 - i ≤ 63 = omega arith in
-      omega (arith, bits_lt i (64 - i), pow_mono h)
-
-  pub bits_zero : (i x : ℕ) → i ≡ 0 → x ≡ bits_from p i (64 - i) → x ≡ bits_from p 0 64
-  bits_zero i x z e = e ∙ ap (λ (j : ℕ). bits_from p j (64 - j)) z
-
-  pub bits_down : (i x : ℕ) → 0 < i → i ≤ 64 → x ≡ bits_from p i (64 - i) → x * 2 + bit (p (i - 1)) ≡ bits_from p (i - 1) (64 - (i - 1))
+  -- one slot more
+  pub bits_more : (a k : ℕ) → bits_from p a (suc k) ≡ bits_from p a k + bit (p (a + k)) * 2 ^ k
   unfolding bits_from
-  bits_down zero x l u e = absurd (omega arith)
-  bits_down (suc i) x l u e =
-      let a : suc i - 1 ≡ i = omega arith in
-      let b : 64 - i ≡ suc (64 - suc i) = omega arith in
-      rw (a, b, e)
+  bits_more a zero =
+      let e : a + 0 ≡ a = omega arith in
+      rw e (omega arith)
+  bits_more a (suc k) =
+      let e : suc a + k ≡ a + suc k = omega arith in
+      omega (arith, rw e at (bits_more (suc a) k), twice (bit (p (a + suc k))) k)
+
+  -- a turn of a loop that joins slot i to those below it
+  pub bits_joined : (i x y : ℕ) (b : Bool) → x ≡ bits_from p 0 i → b ≡ p i → y ≡ x + bit b * 2 ^ i → y ≡ bits_from p 0 (i + 1)
+  bits_joined i x y b e f g =
+      let z : 0 + i ≡ i = omega arith in
+      g ∙ ap (λ (n : ℕ). n + bit b * 2 ^ i) e ∙ ap (λ (t : Bool). bits_from p 0 i + bit t * 2 ^ i) f ∙ sym (rw z at (bits_more 0 i)) ∙ ap (bits_from p 0) (sym (add-one i))

@@ -10,7 +10,7 @@ use lib.ListN.{length, get_or, take, drop, set, length-append, length-drop, leng
 use lib.Seq.{get_or_at, take_all}
 use Rattle.text.specs.Text.{digits_of, decimal_of}
 use Rattle.text.specs.Laws.{number_on, DecimalDigits}
-use Rattle.text.proofs.Lists.{drop_set}
+use Rattle.std.proofs.lemmas.List.{drop-set}
 
 digits_none : (n : ℕ) → digits_of n 0 ≡ []
 unfolding digits_of
@@ -161,7 +161,7 @@ module _ {value rest start : ℕ} {digits : List ℕ} (f : Found value rest star
             rw e
             (f.split ∙ ap (λ (t : List ℕ). t ++ drop (start + 1) digits) (decimal_more rest k)
             ∙ append_assoc (decimal_of (rest / 10)) ((48 + rest % 10) ∷ []) (drop (start + 1) digits)
-            ∙ ap (λ (t : List ℕ). decimal_of (rest / 10) ++ t) (sym (drop_set digits start (48 + rest % 10) (omega (arith, f.inside, f.size)))));
+            ∙ ap (λ (t : List ℕ). decimal_of (rest / 10) ++ t) (sym (drop-set digits start (48 + rest % 10) (omega (arith, f.inside, f.size)))));
       }
 
   -- with the first the part from start on is the text
@@ -169,6 +169,6 @@ module _ {value rest start : ℕ} {digits : List ℕ} (f : Found value rest star
   found_all k =
       let part = drop start (set digits start (48 + rest)) in
       take_all (10 - start) part (omega (arith, f.size, length-drop start (set digits start (48 + rest)), length-set digits start (48 + rest)))
-      ∙ drop_set digits start (48 + rest) (omega (arith, f.inside, f.size))
+      ∙ drop-set digits start (48 + rest) (omega (arith, f.inside, f.size))
       ∙ ap (λ (t : List ℕ). t ++ drop (start + 1) digits) (sym (decimal_one rest k))
       ∙ sym f.split

@@ -1,15 +1,15 @@
--- Hexadecimal digits: read back, and the loop that writes them. Assumes nothing.
+-- Hexadecimal digits: read back, and those of one octet more. Assumes nothing.
 use mathlib.Core.Path.{◌≡◌, refl, sym, ap, ◌∙◌}
 use mathlib.Core.Logic.{◌⊎◌, inl, inr}
-use mathlib.Core.List.{List, [], ◌∷◌}
-use Prim.Native.Nat.{ℕ, zero, suc, ◌+◌, ◌*◌, ◌/◌, ◌%◌, ◌≤◌, ◌<◌}
-use native.Mathlib.Nat.{not-suc-le-zero, lt_of_not-le}
+use mathlib.Core.List.{List, [], ◌∷◌, ◌++◌, append_assoc}
+use Prim.Native.Nat.{ℕ, suc, ◌+◌, ◌*◌, ◌/◌, ◌%◌, ◌≤◌, ◌<◌}
+use native.Mathlib.Nat.{lt_of_not-le}
 use native.Mathlib.Decide.{dec_le}
 use native.Mathlib.Omega.{arith}
 use borrow.Author.Tests.{lt-ltb, le-ltb}
-use lib.ListN.{length, get_or, set}
-use lib.Seq.{paste}
-use Rattle.octets.proofs.Pasted.{paste_next}
+use lib.ListN.{length, get_or, take}
+use lib.Seq.{length-take-le}
+use Rattle.std.proofs.lemmas.List.{take_more}
 use Rattle.text.specs.Text.{hex_digit, hex_of}
 use Rattle.text.specs.Laws.{hex_value, octets_of}
 
@@ -50,27 +50,18 @@ hex_long (a ∷ s) =
     let h = hex_long s in
     omega arith
 
--- the two digits of an octet
-hex_at : (s : List ℕ) (i k : ℕ) → i < length s → k < 2 → get_or (hex_of s) (2 * i + k) 0 ≡ get_or (hex_of (get_or s i 0 ∷ [])) k 0
+pub hex_first : (s : List ℕ) (i : ℕ) → i ≤ length s → length (hex_of (take i s)) ≡ 2 * i
+hex_first s i h = omega (arith, hex_long (take i s), length-take-le i s h)
+
+hex_joined : (s t : List ℕ) → hex_of (s ++ t) ≡ hex_of s ++ hex_of t
 unfolding hex_of
-hex_at [] i k h l = absurd (not-suc-le-zero h)
-hex_at (a ∷ s) zero zero h l = refl
-hex_at (a ∷ s) zero (suc zero) h l = refl
-hex_at (a ∷ s) zero (suc (suc k)) h l = let z : ⊥ = omega arith in absurd z
-hex_at (a ∷ s) (suc i) k h l =
-    let e : 2 * suc i + k ≡ suc (suc (2 * i + k)) = omega arith in
-    let r : i < length s = omega arith in
-    ap (λ (n : ℕ). get_or (hex_of (a ∷ s)) n 0) e ∙ hex_at s i k r l
+hex_joined [] t = refl
+hex_joined (a ∷ s) t = ap (λ (r : List ℕ). hex_digit (a / 16) ∷ hex_digit (a % 16) ∷ r) (hex_joined s t)
 
 -- one octet more
-pub hex_turn : (d : List ℕ) (at : ℕ) (s : List ℕ) (i : ℕ) (b : List ℕ) (x y : ℕ) → i < length s → at + 2 * length s ≤ length d
-    → b ≡ paste d at (hex_of s) (2 * i) → x ≡ hex_digit (get_or s i 0 / 16) → y ≡ hex_digit (get_or s i 0 % 16)
-    → set (set b (at + 2 * i) x) (at + 2 * i + 1) y ≡ paste d at (hex_of s) (2 * (i + 1))
+pub hex_more : (s : List ℕ) (i : ℕ) → i < length s
+    → hex_of (take (i + 1) s) ≡ hex_of (take i s) ++ (hex_digit (get_or s i 0 / 16) ∷ []) ++ (hex_digit (get_or s i 0 % 16) ∷ [])
 unfolding hex_of
-hex_turn d at s i b x y h r e u v =
-    let n = hex_long s in
-    let z : 2 * i ≡ 2 * i + 0 = omega arith in
-    let first : x ≡ get_or (hex_of s) (2 * i) 0 = u ∙ sym (ap (λ (k : ℕ). get_or (hex_of s) k 0) z ∙ hex_at s i 0 h (omega arith)) in
-    paste_next d at (hex_of s) (2 * i + 1) (2 * (i + 1)) _ (at + 2 * i + 1) _ (omega arith) (omega arith)
-    (paste_next d at (hex_of s) (2 * i) (2 * i + 1) b (at + 2 * i) x (omega arith) (omega arith) e refl first refl)
-    (omega arith) (v ∙ sym (hex_at s i 1 h (omega arith))) (omega arith)
+hex_more s i h =
+    ap hex_of (take_more s i 0 h) ∙ hex_joined (take i s) (get_or s i 0 ∷ [])
+    ∙ sym (append_assoc (hex_of (take i s)) (hex_digit (get_or s i 0 / 16) ∷ []) (hex_digit (get_or s i 0 % 16) ∷ []))

@@ -3,6 +3,7 @@ ghost use Rattle.text.specs.Text.{Written};
 
 use octets::buffers::write_octets;
 
+#[tactic(auto, using(octets::proofs::Buffered::octets_one))]
 pub fn write_octet(out: &mut [u8], at: usize, octet: u8) -> usize
     requires { at < length out.old }
     ensures { Written out.old at (octet ∷ []) result out.new }

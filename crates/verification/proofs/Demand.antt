@@ -3,7 +3,7 @@ use mathlib.Core.Path.{◌≡◌, refl, sym, ap, subst, ◌∙◌}
 use mathlib.Core.Logic.{◌↔◌, ◌≢◌, ⊎_elim}
 use mathlib.Core.Bool.{Bool, true, false, not, ◌||◌}
 use mathlib.Core.List.{List, []}
-use mathlib.Core.Option.{Option, none, some}
+use Rattle.std.specs.Prelude.{Option, None, Some}
 use Prim.Native.Nat.{ℕ, zero, suc, ◌+◌, ◌≤◌}
 use native.Mathlib.Omega.{arith}
 use borrow.Author.Tests.{eqb-true, eq-eqb, ne_eqb, le-leb}
@@ -30,14 +30,12 @@ use Rattle.chain.proofs.Answers.{read_named, read_given}
 use Rattle.chain.proofs.Laws.{laws as Chain-laws}
 use Rattle.signing.specs.Copies.{copying}
 use Rattle.signing.specs.Signers.{carries, signing, subject_of, entitling, signed}
-use Rattle.verification.specs.Order.{own_position, Passed, passed, judging, decision_for, verified, deciding, undecided, decision_of, decision, certificate_question, issuer_question, unasked, questions_for, preparing, unprepared, prepared_of, preparation}
+use Rattle.verification.specs.Order.{Decision, Prepared, own_position, Passed, passed, judging, decision_for, verified, deciding, undecided, decision_of, decision, certificate_question, issuer_question, unasked, questions_for, preparing, unprepared, prepared_of, preparation}
 use Rattle.entries.specs.Stored.{part_of}
 use Rattle.verification.specs.Payloads.{payload_of}
 use Rattle.verification.specs.Accepted.{Passing, Accepted}
 use Rattle.verification.specs.Demand.{Asked, Demand2}
 use Rattle.verification.specs.declared.judging.Situation.{Situation}
-use Rattle.verification.specs.declared.operations.Decision.{Decision}
-use Rattle.verification.specs.declared.operations.Prepared.{Prepared}
 use Rattle.signing.proofs.Signed.{signed_numbered}
 use Rattle.verification.proofs.Opened.{decided_passes, prepared_passes}
 use Rattle.verification.proofs.Passes.{passes_to, passes_from}
@@ -61,26 +59,26 @@ or_yes true = refl
 or_yes false = refl
 
 -- whoever is found stands in a slot
-issuer_slot : (l : List ℕ) (c j : Subject) → issuer_in l c ≡ gives j → (i : ℕ) × (find l c.issuer ≡ some i)
+issuer_slot : (l : List ℕ) (c j : Subject) → issuer_in l c ≡ gives j → (i : ℕ) × (find l c.issuer ≡ Some i)
 unfolding issuer_in
 issuer_slot l c j e = by (find l c.issuer) refl e
   where
-    by : (o : Option ℕ) → find l c.issuer ≡ o → subject_or UNKNOWN l o ≡ gives j → (i : ℕ) × (find l c.issuer ≡ some i)
-    by none f h = absurd (gives_refused j UNKNOWN h)
-    by (some i) f h = (i, f)
+    by : (o : Option ℕ) → find l c.issuer ≡ o → subject_or UNKNOWN l o ≡ gives j → (i : ℕ) × (find l c.issuer ≡ Some i)
+    by None f h = absurd (gives_refused j UNKNOWN h)
+    by (Some i) f h = (i, f)
 
 no_root : (r : Record) → r.scope.kind ≡ 1 → ¬ Root (subject_of r)
 unfolding subject_of
 no_root r k z = let e : ◌≡◌ {A = ℕ} 1 4 = sym k ∙ z in omega arith
 
 -- a ticket in a chain has a stored issuer
-chain_issuer : (l : List ℕ) (Own : Subject → Type 0) (n : ℕ) (r : Record) → r.scope.kind ≡ 1 → Chain (issuer_in l) Own n (subject_of r) → (i : ℕ) × (find l (number r.issuer) ≡ some i)
+chain_issuer : (l : List ℕ) (Own : Subject → Type 0) (n : ℕ) (r : Record) → r.scope.kind ≡ 1 → Chain (issuer_in l) Own n (subject_of r) → (i : ℕ) × (find l (number r.issuer) ≡ Some i)
 unfolding subject_of
 chain_issuer l Own n r k (anchor w t) = absurd (no_root r k t)
 chain_issuer l Own (suc n) r k (link {j = j} w z f c) = issuer_slot l (subject_of r) j f.found
 
 -- the certificate's question
-issuer_asked : (store : List ℕ) (m : Message) (issuer i : ℕ) → m.headers.signer.form ≡ CARRIED → find store issuer ≡ some i → certificate_question store m issuer ≡ issuer_question store m.headers.signer.certificate.signed m.headers.signer.certificate.signature.octets (some i)
+issuer_asked : (store : List ℕ) (m : Message) (issuer i : ℕ) → m.headers.signer.form ≡ CARRIED → find store issuer ≡ Some i → certificate_question store m issuer ≡ issuer_question store m.headers.signer.certificate.signed m.headers.signer.certificate.signature.octets (Some i)
 unfolding certificate_question
 issuer_asked store m issuer i k f = rw (eq-eqb m.headers.signer.form CARRIED k, f)
 

@@ -2,16 +2,19 @@
 use mathlib.Core.Path.{◌≡◌, refl, sym, ap, ◌∙◌}
 use mathlib.Core.Bool.{Bool, true, false, not, ◌||◌}
 use mathlib.Core.List.{List}
-use Prim.Native.Nat.{ℕ, zero, suc}
+use Prim.Native.Nat.{ℕ}
 use lib.ListN.{length}
 use lib.Dec.{eqb, leb}
-use native.Mathlib.Omega.{arith}
-use borrow.Author.Tests.{eqb-true, ne_eqb}
-use Rattle.order.specs.Steps.{Answer, gives, refused, onward, Steps, done, need, take, run, Named}
-use Rattle.order.proofs.Steps.{passes, fails, takes, halts, run_named, run_follow, gives_exactly, gives_refused}
-use Rattle.octets.specs.Reading.{got, refused as unread}
+use Rattle.order.specs.Steps.{Answer, gives, refused, onward, Steps, done, need, take, run}
+use Rattle.order.proofs.Steps.{passes, fails, takes, halts, run_follow, gives_exactly, gives_refused}
+use Rattle.octets.specs.Reading.{pick, got, refused as unread}
+use Rattle.octets.proofs.Kept.{kept_got, kept_refused}
 use Rattle.message.specs.Messages.{Message, whole_message}
-use Rattle.message.specs.Parts.{message_parts}
+use Rattle.message.specs.Parts.{given_parts, message_parts}
+use Rattle.message.specs.declared.signers.SignerParts.TheVariants.{Named, Carried}
+use Rattle.octets.specs.declared.vectors.Part.{Part}
+use Rattle.bitfields.specs.Field.{number}
+use Rattle.store.specs.Search.{find}
 use Rattle.message.specs.declared.messages.MessageParts.{MessageParts}
 use Rattle.records.specs.declared.Record.{Record}
 use Rattle.store.specs.Slots.{store_length}
@@ -22,11 +25,26 @@ use Rattle.signing.specs.Times.{longest_age, in_time}
 use Rattle.signing.specs.Places.{in_range}
 use Rattle.signing.specs.Signers.{carries, signed}
 use Rattle.signing.specs.Computed.{signer_judged, signer_of}
-use Rattle.signing.proofs.Signed.{signed_numbered}
-use Rattle.verification.specs.Order.{own_position, Passed, passed, judging, verified, undecided, decision_for, decision_of, decision, certificate_question, questions_for, unprepared, prepared_of, preparation}
-use Rattle.verification.specs.Computed.{opening, parts_of, opened, parts_question, prepared_from, decided_from}
-use Rattle.verification.specs.Accepted.{Reads}
+use Rattle.verification.specs.Order.{own_position, Passed, passed, judging, verified, undecided, decision_for, decision_of, decision, unasked, issuer_question, certificate_question, questions_for, unprepared, prepared_of, preparation}
+use Rattle.verification.specs.Computed.{PartsIn, opening, parts_of, opened, parts_question, questions_from, prepared_from, carries_in, verified_from, decided_from}
 use Rattle.verification.specs.declared.judging.Situation.{Situation}
+
+-- what the parts of a signer say of the certificate
+asked_by : (t : Bool) (store : List ℕ) (issuer : ℕ) (a b c : Part)
+    → parts_question store issuer (pick t (Carried a b) (Named c)) ≡ pick t (issuer_question store a b (find store issuer)) unasked
+asked_by true store issuer a b c = refl
+asked_by false store issuer a b c = refl
+
+carry_by : (t : Bool) (a b c : Part) → carries_in (pick t (Carried a b) (Named c)) ≡ t
+carry_by true a b c = refl
+carry_by false a b c = refl
+
+parts_asked : (store : List ℕ) (issuer : ℕ) (m : Message) → parts_question store issuer (given_parts m.headers.signer) ≡ certificate_question store m issuer
+unfolding certificate_question
+parts_asked store issuer m = asked_by (carries m) store issuer _ _ _
+
+parts_carry : (m : Message) → carries_in (given_parts m.headers.signer) ≡ carries m
+parts_carry m = carry_by (carries m) _ _ _
 
 module _ (store octets : List ℕ) (x : Situation) where
   -- ---- the rows before the signer
@@ -44,18 +62,18 @@ module _ (store octets : List ℕ) (x : Situation) where
   aging = need 1 (leb x.age longest_age) storing
 
   abbrev placing : Steps Message
-  placing = need 1 (in_range x.latitude x.longitude) aging
+  placing = need 1 (in_range x.position.latitude x.position.longitude) aging
 
   pub opened_length : eqb (length store) store_length ≡ false → refused 1 ≡ opened store octets x
   unfolding opened
   opened_length e = sym (ap parts_of (fails e 1 placing))
 
   module _ (size : eqb (length store) store_length ≡ true) where
-    pub opened_place : in_range x.latitude x.longitude ≡ false → refused 1 ≡ opened store octets x
+    pub opened_place : in_range x.position.latitude x.position.longitude ≡ false → refused 1 ≡ opened store octets x
     unfolding opened
     opened_place e = sym (ap parts_of (passes size 1 placing ∙ fails e 1 aging))
 
-    module _ (placed : in_range x.latitude x.longitude ≡ true) where
+    module _ (placed : in_range x.position.latitude x.position.longitude ≡ true) where
       pub opened_age : leb x.age longest_age ≡ false → refused 1 ≡ opened store octets x
       unfolding opened
       opened_age e = sym (ap parts_of (passes size 1 placing ∙ passes placed 1 aging ∙ fails e 1 storing))
@@ -91,11 +109,8 @@ module _ (store octets : List ℕ) (x : Situation) where
   -- ---- a message that was opened
 
   pub record Opened (p : MessageParts) : Type 0 where
-    pub message : Message
-    pub given : run (opening store octets x) ≡ gives message
-    pub parts : message_parts message ≡ p
-    pub reads : Reads octets message
-    pub size : length store ≡ store_length
+    pub parts : PartsIn octets p
+    pub given : run (opening store octets x) ≡ gives parts.0
 
   pub opened_to : (p : MessageParts) → gives p ≡ opened store octets x → Opened p
   unfolding opened
@@ -106,13 +121,7 @@ module _ (store octets : List ℕ) (x : Situation) where
           let h = (gives_exactly (opening store octets x) m).0 g in
           let r = read_given (whole_message octets) h.1.1.1.1.0 h.1.1.1.1.1 in
           let same : h.1.1.1.1.0 ≡ m = sym h.1.1.1.1.2.1 in
-          record {
-            message = m;
-            given = g;
-            parts = cc;
-            reads = (r.0, r.1 ∙ ap (λ (y : Message). got y r.0) same);
-            size = eqb-true (length store) store_length h.0;
-          }
+          record { parts = (m, (r.0, r.1 ∙ ap (λ (y : Message). got y r.0) same), cc); given = g }
       by (refused k) g q = absurd (gives_refused p k (sym q))
 
   refused_to : (k : ℕ) → refused k ≡ opened store octets x → run (opening store octets x) ≡ refused k
@@ -131,9 +140,6 @@ module _ (store octets : List ℕ) (x : Situation) where
   judging_follows : run (judging store octets x) ≡ onward (run (opening store octets x)) (λ m. run (finding m))
   judging_follows = run_follow (opening store octets x) finding
 
-  signer_named : (m : Message) → Named (run (signed store octets m (own_position x)))
-  signer_named m = run_named (signed store octets m (own_position x)) (signed_numbered store octets m (own_position x))
-
   prepared_by : (a : Answer Passed) → run (judging store octets x) ≡ a → preparation store octets x ≡ prepared_of (onward a (λ p. gives (questions_for store p)))
   unfolding preparation run
   prepared_by a e =
@@ -147,16 +153,15 @@ module _ (store octets : List ℕ) (x : Situation) where
 
   pub prepared_signed : (m : Message) → run (opening store octets x) ≡ gives m
       → prepared_from store (message_parts m) (signer_of store octets m (own_position x)) ≡ preparation store octets x
-  unfolding signer_of prepared_from parts_question certificate_question run
-  prepared_signed m g = by (run (signed store octets m (own_position x))) (signer_named m) refl
+  unfolding signer_of questions_from certificate_question run
+  prepared_signed m g = by (run (signed store octets m (own_position x))) refl
     where
       on : run (judging store octets x) ≡ run (finding m)
       on = judging_follows ∙ ap (λ (a : Answer Message). onward a (λ y. run (finding y))) g
 
-      by : (a : Answer Record) → Named a → run (signed store octets m (own_position x)) ≡ a → prepared_from store (message_parts m) (signer_judged a) ≡ preparation store octets x
-      by (gives r) n e = sym (prepared_by (gives (passed m r)) (on ∙ takes e (λ s. done (passed m s))))
-      by (refused zero) n e = absurd n
-      by (refused (suc k)) n e = rw (ne_eqb (suc k) 0 (λ z. omega arith)) (sym (prepared_by (refused (suc k)) (on ∙ halts e (λ s. done (passed m s)))))
+      by : (a : Answer Record) → run (signed store octets m (own_position x)) ≡ a → prepared_from store (message_parts m) (signer_judged a) ≡ preparation store octets x
+      by (gives r) e = rw (parts_asked store (number r.issuer) m) (sym (prepared_by (gives (passed m r)) (on ∙ takes e (λ s. done (passed m s)))))
+      by (refused k) e = sym (prepared_by (refused k) (on ∙ halts e (λ s. done (passed m s))))
 
   module _ (verdict certified : ℕ) where
     decided_by : (a : Answer Passed) → run (judging store octets x) ≡ a
@@ -175,20 +180,22 @@ module _ (store octets : List ℕ) (x : Situation) where
 
     pub decided_signed : (m : Message) → run (opening store octets x) ≡ gives m
         → decided_from (message_parts m) (signer_of store octets m (own_position x)) verdict certified ≡ decision store octets x verdict certified
-    unfolding signer_of decided_from run
-    decided_signed m g = by (run (signed store octets m (own_position x))) (signer_named m) refl
+    unfolding signer_of verified_from run
+    decided_signed m g = by (run (signed store octets m (own_position x))) refl
       where
         on : run (judging store octets x) ≡ run (finding m)
         on = judging_follows ∙ ap (λ (a : Answer Message). onward a (λ y. run (finding y))) g
 
         verdicts : (r : Record) (a b : Bool) → (not (carries m) || eqb certified 1) ≡ a → eqb verdict 1 ≡ b
             → decided_from (message_parts m) (signer_judged (gives r)) verdict certified ≡ decision_of (run (verified (passed m r) verdict certified))
-        verdicts r true true e f = rw (e, f)
-        verdicts r true false e f = rw (e, f)
-        verdicts r false b e f = rw e
+        verdicts r true true e f = rw (parts_carry m, e, f)
+        verdicts r true false e f = rw (parts_carry m, e, f)
+        verdicts r false b e f = rw (parts_carry m, e)
 
-        by : (a : Answer Record) → Named a → run (signed store octets m (own_position x)) ≡ a
+        by : (a : Answer Record) → run (signed store octets m (own_position x)) ≡ a
             → decided_from (message_parts m) (signer_judged a) verdict certified ≡ decision store octets x verdict certified
-        by (gives r) n e = verdicts r _ _ refl refl ∙ sym (decided_by (gives (passed m r)) (on ∙ takes e (λ s. done (passed m s))))
-        by (refused zero) n e = absurd n
-        by (refused (suc k)) n e = rw (ne_eqb (suc k) 0 (λ z. omega arith)) (sym (decided_by (refused (suc k)) (on ∙ halts e (λ s. done (passed m s)))))
+        by (gives r) e = verdicts r _ _ refl refl ∙ sym (decided_by (gives (passed m r)) (on ∙ takes e (λ s. done (passed m s))))
+        by (refused k) e = sym (decided_by (refused k) (on ∙ halts e (λ s. done (passed m s))))
+
+-- what the tests before the signer cite
+pub ruleset opened_tests = (kept_got, kept_refused, opened_place, opened_age, opened_bad, opened_unread, opened_late, opened_passes)

@@ -32,7 +32,7 @@ module _ (store octets : List ℕ) (x : Situation) (os : Octets store) (oo : Oct
       let rules : Passing store octets x m g.0 =
       record {
         size = eqb-true _ _ size;
-        position = (test_within 900000000 x.latitude places.0, test_within 1800000000 x.longitude places.1);
+        position = (test_within 900000000 x.position.latitude places.0, test_within 1800000000 x.position.longitude places.1);
         age_allowed = leb-true _ _ age;
         valid = good;
         reads = reads;
@@ -49,7 +49,7 @@ module _ (store octets : List ℕ) (x : Situation) (os : Octets store) (oo : Oct
   gives_passing m r h = (
     eq-eqb _ _ h.size,
     (
-      and_join _ _ (within_test 900000000 x.latitude h.position.0) (within_test 1800000000 x.longitude h.position.1),
+      and_join _ _ (within_test 900000000 x.position.latitude h.position.0) (within_test 1800000000 x.position.longitude h.position.1),
       (
         le-leb _ _ h.age_allowed,
         (

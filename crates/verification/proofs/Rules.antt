@@ -1,21 +1,20 @@
 -- The tests and the rules that they decide. Assumes nothing.
 use mathlib.Core.Path.{◌≡◌, refl, sym, ap, subst, ◌∙◌}
-use mathlib.Core.Logic.{inl, inr, ⊎_elim}
-use mathlib.Core.Bool.{Bool, true, false, not, ◌&&◌, ◌||◌}
+use mathlib.Core.Logic.{inl, inr}
+use mathlib.Core.Bool.{Bool, true, false, not, ◌&&◌}
 use mathlib.Core.List.{List}
-use mathlib.Core.Option.{Option, none, some}
+use Rattle.std.specs.Prelude.{Option, None, Some, IfSome}
 use Prim.Native.Nat.{ℕ, ◌+◌, ◌-◌, ◌*◌, ◌≤◌, ◌<◌}
 use native.Mathlib.Omega.{arith}
 use borrow.Author.Tests.{leb-true, ltb-true, le-leb, lt-ltb, eqb-true, eq-eqb, ne_eqb, not-true}
-use lib.Dec.{eqb, ltb}
+use lib.Dec.{eqb}
 use lib.ListN.{drop}
 use Rattle.order.specs.Steps.{gives, run, Well, well, Gives}
 use Rattle.order.proofs.Steps.{gives_exactly}
-use Rattle.geo.proofs.Bools.{never, and_split, and_join, or_split}
+use Rattle.geo.proofs.Bools.{never, and_split, and_join}
 use Rattle.octets.specs.Reading.{pick}
 use Rattle.bitfields.specs.Field.{number, Octets}
 use Rattle.bitfields.proofs.Octets.{octets_take, octets_drop}
-use Rattle.headers.specs.declared.times.Expiration.{Expiration}
 use Rattle.headers.specs.declared.fields.Fields.{Fields}
 use Rattle.message.specs.Messages.{Message}
 use Rattle.scope.specs.Issued.{listed, Among}
@@ -35,12 +34,12 @@ use Rattle.validity.specs.Laws.{Valid}
 use Rattle.chain.specs.Chains.{Sound, Chain}
 use Rattle.chain.specs.Stored.{slot_or, issuer_in, followers}
 use Rattle.store.specs.Withdrawn.{withdrawn_in}
-use Rattle.chain.specs.declared.subjects.Position.{Position}
-use Rattle.chain.specs.declared.subjects.Place.TheVariants.{At}
+use Rattle.geo.specs.declared.Position.{Position}
 use Rattle.chain.proofs.Answers.{slot_given}
 use Rattle.chain.proofs.Walks.{walk_gives, chain_map, sound_to, sound_from}
 use Rattle.entries.specs.Stored.{part_of, record_from}
 use Rattle.entries.proofs.Facts.{facts}
+use Rattle.signing.specs.Fields.{generated, its_aid}
 use Rattle.signing.specs.Times.{allowed_age, whole_second, unexpired, in_time}
 use Rattle.signing.specs.Places.{position_of}
 use Rattle.signing.specs.Copies.{comparing, copying}
@@ -61,23 +60,20 @@ fresh_to a b g h = (omega arith, omega arith)
 fresh_from : (a b g : ℕ) → Fresh a b g → a - b + (b - a) ≤ g
 fresh_from a b g h = omega (arith, h.0, h.1)
 
-unexpired_to : (e : Expiration) (t : ℕ) → unexpired e t ≡ true → e.given ≡ true → whole_second t < e.second
-unexpired_to e t h g =
-    ⊎_elim (λ n. never (sym (ap not g) ∙ n)) (λ l. ltb-true _ _ l) (or_split (not e.given) (ltb (whole_second t) e.second) h)
+unexpired_to : (e : Option ℕ) (t : ℕ) → unexpired e t ≡ true → IfSome e (λ second. whole_second t < second)
+unexpired_to None t h = tt
+unexpired_to (Some second) t h = ltb-true _ _ h
 
-unexpired_from : (e : Expiration) (t : ℕ) → (e.given ≡ true → whole_second t < e.second) → unexpired e t ≡ true
-unexpired_from e t h = by e.given h
-  where
-    by : (b : Bool) → (b ≡ true → whole_second t < e.second) → (not b || ltb (whole_second t) e.second) ≡ true
-    by true f = lt-ltb _ _ (f refl)
-    by false f = refl
+unexpired_from : (e : Option ℕ) (t : ℕ) → IfSome e (λ second. whole_second t < second) → unexpired e t ≡ true
+unexpired_from None t h = refl
+unexpired_from (Some second) t h = lt-ltb _ _ h
 
 module _ (f : Fields) (time age : ℕ) where
-  pub time_to : in_time f time age ≡ true → Fresh f.generation.time time (allowed_age age) × (f.expiration.given ≡ true → whole_second time < f.expiration.second)
+  pub time_to : in_time f time age ≡ true → Fresh (generated f) time (allowed_age age) × IfSome f.expiration (λ second. whole_second time < second)
   unfolding in_time
   time_to e = let h = and_split _ _ e in (fresh_to _ _ _ (leb-true _ _ h.0), unexpired_to f.expiration time h.1)
 
-  pub time_from : Fresh f.generation.time time (allowed_age age) → (f.expiration.given ≡ true → whole_second time < f.expiration.second) → in_time f time age ≡ true
+  pub time_from : Fresh (generated f) time (allowed_age age) → IfSome f.expiration (λ second. whole_second time < second) → in_time f time age ≡ true
   unfolding in_time
   time_from a e = and_join _ _ (le-leb _ _ (fresh_from _ _ _ a)) (unexpired_from f.expiration time e)
 
@@ -109,12 +105,12 @@ slot_image l i o v h f =
     record-laws.image_back (slot_of l i) (octets_take slot_length (drop (i * slot_length) l) (octets_drop (i * slot_length) l o)) (slot_long l i v.size h)
     (good_padding_lem (slot_of l i) (not_empty _ f) (v.slots i h))
 
-slot_of_lem : {i j : ℕ} → some i ≡ some j → i ≡ j
+slot_of_lem : {i j : ℕ} → Some i ≡ Some j → i ≡ j
 slot_of_lem {i} {j} e = ap (λ (o : Option ℕ). in_some o) e
   where
     in_some : Option ℕ → ℕ
-    in_some none = i
-    in_some (some k) = k
+    in_some None = i
+    in_some (Some k) = k
 
 module _ (store : List ℕ) (r : Record) (o : Octets store) (v : Valid store) (ranged : InRange r) (sized : Sized r) where
   pub copy_to : (w : Well) → run (copying store r) ≡ gives w → Unchanged store r
@@ -123,8 +119,8 @@ module _ (store : List ℕ) (r : Record) (o : Octets store) (v : Valid store) (r
       record { not_withdrawn = not-true _ g.0; same = by (find store (number r.id)) refl g.1 }
     where
       by : (s : Option ℕ) → find store (number r.id) ≡ s → Gives (comparing store r s) w → (i : ℕ) → Holds store (number r.id) i → record_of (slot_of store i) ≡ r
-      by none f g i h = absurd (find_none store (number r.id) f i h.slot h.filled h.has_id_lem)
-      by (some j) f (same, q) i h =
+      by None f g i h = absurd (find_none store (number r.id) f i h.slot h.filled h.has_id_lem)
+      by (Some j) f (same, q) i h =
           let here : i ≡ j = slot_of_lem (sym (found_from store (number r.id) i v.distinct h) ∙ f) in
           ap (λ (k : ℕ). record_of (slot_of store k)) here ∙ ap record_of ((same_exactly (slot_of store j) (image_of r)).0 same) ∙ record-laws.round_trip r ranged sized
 
@@ -132,8 +128,8 @@ module _ (store : List ℕ) (r : Record) (o : Octets store) (v : Valid store) (r
   copy_from u = (gives_exactly (copying store r) well).1 (ap not u.not_withdrawn, by (find store (number r.id)) refl)
     where
       by : (s : Option ℕ) → find store (number r.id) ≡ s → Gives (comparing store r s) well
-      by none f = refl
-      by (some j) f =
+      by None f = refl
+      by (Some j) f =
           let h = found_to store (number r.id) j f in (
             (same_exactly (slot_of store j) (image_of r)).1 (sym (slot_image store j o v h.slot h.filled) ∙ ap image_of (u.same j h)),
             refl,
@@ -170,25 +166,25 @@ module _ (store octets : List ℕ) (m : Message) (os : Octets store) (oo : Octet
 
 module _ (store : List ℕ) (f : Fields) (own : Position) (r : Record) where
   abbrev chained : Type 0
-  chained = Chain (issuer_in store) (Sound (withdrawn_in store) (whole_second f.generation.time) (At (position_of f.location own))) followers (subject_of r)
+  chained = Chain (issuer_in store) (Sound (withdrawn_in store) (whole_second (generated f)) (Some (position_of f.location own))) followers (subject_of r)
 
-  pub entitled_to : (w : Well) → run (entitling store f own r) ≡ gives w → (r.scope.kind ≡ 1) × chained × Among f.aid.value (listed r.scope.permissions)
+  pub entitled_to : (w : Well) → run (entitling store f own r) ≡ gives w → (r.scope.kind ≡ 1) × chained × Among (its_aid f) (listed r.scope.permissions)
   entitled_to w e = by ((gives_exactly (entitling store f own r) w).0 e)
     where
-      by : Gives (entitling store f own r) w → (r.scope.kind ≡ 1) × chained × Among f.aid.value (listed r.scope.permissions)
+      by : Gives (entitling store f own r) w → (r.scope.kind ≡ 1) × chained × Among (its_aid f) (listed r.scope.permissions)
       by (k, (tt, walked, (aid, q))) = (
         eqb-true r.scope.kind 1 k,
         chain_map (issuer_in store) (sound_to _ _ _) ((walk_gives (issuer_in store) _ followers (subject_of r)).0 walked),
-        listed_among f.aid.value (listed r.scope.permissions) aid,
+        listed_among (its_aid f) (listed r.scope.permissions) aid,
       )
 
-  pub entitled_from : r.scope.kind ≡ 1 → chained → Among f.aid.value (listed r.scope.permissions) → run (entitling store f own r) ≡ gives well
+  pub entitled_from : r.scope.kind ≡ 1 → chained → Among (its_aid f) (listed r.scope.permissions) → run (entitling store f own r) ≡ gives well
   entitled_from k c a =
       (gives_exactly (entitling store f own r) well).1 (
         eq-eqb _ _ k,
         (
           well,
           (walk_gives (issuer_in store) _ followers (subject_of r)).1 (chain_map (issuer_in store) (sound_from _ _ _) c),
-          (among_listed f.aid.value (listed r.scope.permissions) a, refl),
+          (among_listed (its_aid f) (listed r.scope.permissions) a, refl),
         ),
       )

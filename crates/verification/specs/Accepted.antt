@@ -1,6 +1,6 @@
 -- The rules of decide in the paper's words (01, "The signed message", "How a chain is walked", "Order of checks"): a message is accepted exactly
 -- if this record holds.
-use Rattle.std.specs.Prelude.{◌≡◌, true, false, ◌≢◌, List, ℕ, ◌+◌, ◌≤◌, ◌<◌, length}
+use Rattle.std.specs.Prelude.{◌≡◌, false, ◌≢◌, List, ℕ, ◌+◌, ◌≤◌, ◌<◌, length, Some, IfSome}
 use Rattle.octets.specs.Kinds.{TICKET}
 use Rattle.octets.specs.Coordinates.{latitude_limit, longitude_limit}
 use Rattle.octets.specs.Reading.{got}
@@ -17,8 +17,8 @@ use Rattle.layout.specs.WellFormed.{Within}
 use Rattle.chain.specs.Chains.{Sound, Chain}
 use Rattle.chain.specs.Stored.{issuer_in, followers}
 use Rattle.store.specs.Withdrawn.{withdrawn_in}
-use Rattle.chain.specs.declared.subjects.Place.TheVariants.{At}
 use Rattle.entries.specs.Stored.{part_of, record_from}
+use Rattle.signing.specs.Fields.{generated, its_aid}
 use Rattle.signing.specs.Times.{longest_age, allowed_age, whole_second}
 use Rattle.signing.specs.Places.{position_of}
 use Rattle.signing.specs.Signers.{subject_of}
@@ -50,24 +50,24 @@ pub data Signs (store octets : List ℕ) (m : Message) : Record → Type 0 where
 pub record Passing (store octets : List ℕ) (x : Situation) (m : Message) (r : Record) : Type 0 where
   -- the call
   pub size : length store ≡ store_length
-  pub position : Within latitude_limit x.latitude × Within longitude_limit x.longitude
+  pub position : Within latitude_limit x.position.latitude × Within longitude_limit x.position.longitude
   pub age_allowed : x.age ≤ longest_age
   pub valid : Valid store
   -- the message reads
   pub reads : Reads octets m
   -- its age and its expiration
-  pub age : Fresh m.headers.fields.generation.time x.time (allowed_age x.age)
-  pub expiration : m.headers.fields.expiration.given ≡ true → whole_second x.time < m.headers.fields.expiration.second
+  pub age : Fresh (generated m.headers.fields) x.time (allowed_age x.age)
+  pub expiration : IfSome m.headers.fields.expiration (λ second. whole_second x.time < second)
   -- its signer: stored, or carried and, if a copy of it is stored, the same as that
   pub signs : Signs store octets m r
   -- a ticket
   pub kind : r.scope.kind ≡ TICKET
   -- a chain of at most eight up to a root: each certificate not withdrawn, in its period and in its region, each issued by the next
   pub chain : Chain (issuer_in store)
-      (Sound (withdrawn_in store) (whole_second m.headers.fields.generation.time) (At (position_of m.headers.fields.location (own_position x))))
+      (Sound (withdrawn_in store) (whole_second (generated m.headers.fields)) (Some (position_of m.headers.fields.location (own_position x))))
       followers (subject_of r)
   -- its_aid among the signer's permissions
-  pub permitted : Among m.headers.fields.aid.value (listed r.scope.permissions)
+  pub permitted : Among (its_aid m.headers.fields) (listed r.scope.permissions)
 
 pub record Accepted (store octets : List ℕ) (x : Situation) (verdict certified : ℕ) : Type 0 where
   pub message : Message

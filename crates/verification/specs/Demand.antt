@@ -10,16 +10,15 @@ use Rattle.store.specs.Slots.{slot_of}
 use Rattle.store.specs.Laws.{Holds}
 use Rattle.chain.specs.Chains.{Root, top}
 use Rattle.chain.specs.Laws.{StoredIn}
-use Rattle.chain.specs.declared.subjects.Position.{Position}
+use Rattle.geo.specs.declared.Position.{Position}
 use Rattle.headers.specs.declared.fields.Fields.{Fields}
 use Rattle.signing.specs.Copies.{copying}
 use Rattle.signing.specs.Signers.{signing, entitling, signed, public_key}
-use Rattle.verification.specs.Order.{passed, question, unasked, decision_for, deciding, decision, undecided, preparation, unprepared}
+use Rattle.verification.specs.Order.{Prepared, passed, question, unasked, decision_for, deciding, decision, undecided, preparation, unprepared}
 use Rattle.entries.specs.Stored.{part_of}
 use Rattle.verification.specs.Payloads.{payload_of}
 use Rattle.verification.specs.Accepted.{Passing, Accepted}
 use Rattle.verification.specs.declared.judging.Situation.{Situation}
-use Rattle.verification.specs.declared.operations.Prepared.{Prepared}
 use Rattle.message.specs.Signers.{CARRIED}
 
 -- the questions of a message that passes: for the message the signer's key, for a certificate that it carries the issuer's, which is stored

@@ -1,5 +1,5 @@
 pub mod Order
-pub mod Computed
 pub mod Payloads
 pub mod Accepted
+pub mod Computed
 pub mod Demand

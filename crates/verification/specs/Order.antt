@@ -1,9 +1,10 @@
 -- Prepare and decide (01, "Order of checks"): 1, 2, 3, reading, 14, then 8, 9 or 7, the walk with 10 first, 11; decide then 15 and 15.
-use Rattle.std.specs.Prelude.{not, ◌||◌, List, ℕ, ℤ, length, replicate, eqb, leb}
-use Rattle.std.proofs.Math.Option.{Option, none, some}
+use Rattle.std.specs.Prelude.{◌≡◌, not, ◌||◌, List, ℕ, ℤ, length, replicate, eqb, leb, Option, None, Some, Result, Ok, Err, unwrap_or, IfOk, IfSome}
 use Rattle.order.specs.Steps.{Answer, gives, refused, Steps, done, need, take, follow, run}
 use Rattle.octets.specs.Refusals.{ACCEPTED, BAD_CALL, BAD_STORE, OUT_OF_DATE, BAD_SIGNATURE}
+use Rattle.octets.specs.Outcomes.{number_of}
 use Rattle.octets.specs.Reading.{pick}
+use Rattle.octets.specs.declared.refusals.Refusal.{Refusal}
 use Rattle.octets.specs.Verdicts.{GOOD}
 use Rattle.octets.specs.Vectors.{nowhere}
 use Rattle.octets.specs.declared.vectors.Part.{Part}
@@ -15,21 +16,22 @@ use Rattle.store.specs.Slots.{store_length, slot_of}
 use Rattle.store.specs.Search.{find}
 use Rattle.validity.specs.Valid.{valid_store}
 use Rattle.chain.specs.Stored.{answered}
-use Rattle.chain.specs.declared.subjects.Position.{Position}
+use Rattle.geo.specs.declared.Position.{Position}
+use Rattle.signing.specs.Fields.{generated, its_aid}
 use Rattle.signing.specs.Times.{longest_age, in_time}
 use Rattle.signing.specs.Places.{in_range}
 use Rattle.signing.specs.declared.signers.PublicKey.{PublicKey}
 use Rattle.signing.specs.Signers.{carries, signed, public_key}
 use Rattle.verification.specs.declared.judging.Situation.{Situation}
-use Rattle.verification.specs.declared.operations.Decision.{Decision}
+use Rattle.verification.specs.declared.operations.Decision.{Decision as Decided}
 use Rattle.verification.specs.declared.operations.Question.{Question}
-use Rattle.verification.specs.declared.operations.Prepared.{Prepared}
+use Rattle.verification.specs.declared.operations.Prepared.{Prepared as Questions}
 
 abbrev pub situation : ℕ → ℤ → ℤ → ℕ → Situation
-situation time latitude longitude age = record { time = time; latitude = latitude; longitude = longitude; age = age }
+situation time latitude longitude age = record { time = time; position = record { latitude = latitude; longitude = longitude }; age = age }
 
 abbrev pub own_position : Situation → Position
-own_position x = record { latitude = x.latitude; longitude = x.longitude }
+own_position x = x.position
 
 -- what a message that passes gives
 pub record Passed : Type 0 where
@@ -43,7 +45,7 @@ passed m r = record { message = m; signer = r }
 abbrev pub judging : List ℕ → List ℕ → Situation → Steps Passed
 judging store octets x =
     need BAD_CALL (eqb (length store) store_length)
-    (need BAD_CALL (in_range x.latitude x.longitude)
+    (need BAD_CALL (in_range x.position.latitude x.position.longitude)
     (need BAD_CALL (leb x.age longest_age)
     (need BAD_STORE (valid_store store)
     (take (answered (whole_message octets)) (λ m.
@@ -53,14 +55,22 @@ judging store octets x =
 
 -- ---- decide: the certificate's verdict, if there is one, and the message's
 
+-- the number of the answer, the payload as a part of the message, the signer's id, its_aid and the generation time; zeros in a refusal
+pub record Decision : Type 0 where
+  pub number : ℕ
+  pub payload : Part
+  pub signer : List ℕ
+  pub permission : ℕ
+  pub generation : ℕ
+
 abbrev pub decision_for : Passed → Decision
 decision_for p =
     record {
       number = ACCEPTED;
       payload = p.message.payload;
       signer = p.signer.id;
-      permission = p.message.headers.fields.aid.value;
-      generation = p.message.headers.fields.generation.time;
+      permission = its_aid p.message.headers.fields;
+      generation = generated p.message.headers.fields;
     }
 
 abbrev pub verified : Passed → ℕ → ℕ → Steps Decision
@@ -83,7 +93,18 @@ decision_of (refused k) = undecided k
 unfoldable pub decision : List ℕ → List ℕ → Situation → ℕ → ℕ → Decision
 decision store octets x verdict certified = decision_of (run (deciding store octets x verdict certified))
 
+-- what the code answers
+abbrev pub decided_answer : Result Decided Refusal → Decision
+decided_answer (Ok d) = record { number = ACCEPTED; payload = d.payload; signer = d.signer; permission = d.permission; generation = d.generation }
+decided_answer (Err e) = undecided (number_of e)
+
 -- ---- prepare: the two questions
+
+-- the number of the answer, and the questions for the message and for the certificate that it carries; zeros where there is none
+pub record Prepared : Type 0 where
+  pub number : ℕ
+  pub message : Question
+  pub certificate : Question
 
 -- the key that checks, what it covers, and the whole signature structure
 abbrev pub question : Part → PublicKey → Part → Question
@@ -95,8 +116,8 @@ unasked = record { signed = nowhere; form = 0; key = replicate 32 0; signature =
 
 -- the certificate's question, by the key of its issuer, which the walk found
 abbrev pub issuer_question : List ℕ → Part → Part → Option ℕ → Question
-issuer_question store range signature none = unasked
-issuer_question store range signature (some i) = question range (public_key (record_of (slot_of store i)).key) signature
+issuer_question store range signature None = unasked
+issuer_question store range signature (Some i) = question range (public_key (record_of (slot_of store i)).key) signature
 
 unfoldable pub certificate_question : List ℕ → Message → ℕ → Question
 certificate_question store m issuer =
@@ -123,3 +144,12 @@ prepared_of (refused k) = unprepared k
 
 unfoldable pub preparation : List ℕ → List ℕ → Situation → Prepared
 preparation store octets x = prepared_of (run (preparing store octets x))
+
+-- what the code answers
+abbrev pub prepared_answer : Result Questions Refusal → Prepared
+prepared_answer (Ok q) = record { number = ACCEPTED; message = q.message; certificate = unwrap_or q.certificate unasked }
+prepared_answer (Err e) = unprepared (number_of e)
+
+-- a question for a certificate is told only where there is one: a key has a point type, and `unasked` has none
+abbrev pub CertificateAsked : Result Questions Refusal → Type 0
+CertificateAsked r = IfOk r (λ q. IfSome q.certificate (λ a. ¬ (a.form ≡ 0)))

@@ -5,5 +5,6 @@ mod judging; // what prepare and decide share
 mod operations; // the two operations
 mod payloads; // the payload as a part of the message
 
+pub use judging::Situation;
 pub use operations::{Decision, Prepared, Question, decide, prepare};
 pub use payloads::payload;

@@ -1,22 +1,22 @@
-ghost use Rattle.std.specs.Prelude.{◌≡◌, List, ℕ, length};
-ghost use Rattle.verification.specs.Order.{situation, question, unasked, unprepared, preparation, undecided, decision};
-ghost use Rattle.verification.specs.declared.operations.Decision.{Decision};
-ghost use Rattle.verification.specs.declared.operations.Prepared.{Prepared};
-ghost use Rattle.verification.specs.Computed.{parts_question, prepared_from, decided_from};
-ghost use Rattle.store.specs.Slots.{store_length};
+ghost use Rattle.std.specs.Prelude.{◌≡◌, not, ◌&&◌, eqb, unwrap_or, Ok, IfSome};
+ghost use Rattle.octets.specs.Verdicts.{GOOD};
+ghost use Rattle.verification.specs.Order.{question, unasked, preparation, prepared_answer, CertificateAsked, decision, decided_answer};
+ghost use Rattle.verification.specs.Computed.{parts_question, questions_from, carries_in, verified_from};
 
-use crate::judging::{Situation, opened};
-use chain::subjects::Position;
-use message::messages::{MessageParts, MessageRead};
-use message::signers::{CARRIED, SignerParts};
-use octets::refusals::{ACCEPTED, BAD_SIGNATURE};
-use octets::vectors::{Part, nowhere};
+use crate::judging::{Situation, judged, opened};
+use message::messages::MessageParts;
+use message::signers::SignerParts;
+use octets::refusals::Refusal;
+use octets::vectors::Part;
 use octets::verdicts::GOOD;
-use signing::signers::{PublicKey, SignerJudged, carried_signer, named_signer, public_key};
+use signing::fields::{generated, its_aid};
+use signing::signers::{Identity, PublicKey, public_key};
 use store::fields::key_at;
-use store::search::{Found, find_id};
+use store::search::find_id;
+use store::sizes::STORE_LENGTH;
 
 // What the chip is asked: the signed range, the key's point type and octets, and the whole signature structure. Ranges are parts of the message.
+// Kept: the form's number, which C is told.
 #[derive(Clone, Copy)]
 pub struct Question {
     pub signed: Part,
@@ -25,33 +25,20 @@ pub struct Question {
     pub signature: Part,
 }
 
-// The number of the answer, and the questions for the message and for the certificate that it carries; zeros where there is none.
+// The questions for the message and, if it carries one, for the certificate.
 #[derive(Clone, Copy)]
 pub struct Prepared {
-    pub number: u8,
     pub message: Question,
-    pub certificate: Question,
+    pub certificate: Option<Question>,
 }
 
-// The number of the answer, the payload as a part of the message, the signer's id, its_aid and the generation time; zeros in a refusal.
+// The payload as a part of the message, the signer's id, its_aid and the generation time.
 #[derive(Clone, Copy)]
 pub struct Decision {
-    pub number: u8,
     pub payload: Part,
     pub signer: [u8; 8],
     pub permission: u32,
     pub generation: u64,
-}
-
-fn no_question() -> Question
-    ensures { result ≡ unasked }
-{
-    Question {
-        signed: nowhere(),
-        form: 0,
-        key: [0; 32],
-        signature: nowhere(),
-    }
 }
 
 fn question_of(signed: Part, key: PublicKey, signature: Part) -> Question
@@ -66,192 +53,94 @@ fn question_of(signed: Part, key: PublicKey, signature: Part) -> Question
     }
 }
 
-fn unprepared(number: u8) -> Prepared
-    ensures { result ≡ unprepared number }
-{
-    Prepared {
-        number,
-        message: no_question(),
-        certificate: no_question(),
-    }
-}
-
-fn undecided(number: u8) -> Decision
-    ensures { result ≡ undecided number }
-{
-    Decision {
-        number,
-        payload: nowhere(),
-        signer: [0; 8],
-        permission: 0,
-        generation: 0,
-    }
-}
-
 // The question for the certificate that a message carries, by the key of its issuer.
-fn certificate_question(store: &[u8], signer: SignerParts, issuer: u64) -> Question
-    requires { length store.now ≡ store_length }
-    ensures { result ≡ parts_question store.now signer issuer }
+fn certificate_question(
+    store: &[u8; STORE_LENGTH],
+    signer: SignerParts,
+    issuer: u64,
+) -> Option<Question>
+    ensures { (unwrap_or result unasked ≡ parts_question store.now issuer signer) × IfSome result (λ a. ¬ (a.form ≡ 0)) }
 {
-    if signer.form != CARRIED {
-        return no_question();
-    }
-    match find_id(store, issuer) {
-        Found::Nowhere => no_question(),
-        Found::At(slot) => {
-            let key = public_key(key_at(store, slot));
-            let signed = signer.signed;
-            let signature = signer.signature;
-            question_of(signed, key, signature)
-        }
-    }
+    let SignerParts::Carried { signed, signature } = signer else {
+        return None;
+    };
+    let slot = find_id(store, issuer)?;
+    let key = public_key(key_at(store, slot));
+    Some(question_of(signed, key, signature))
 }
 
-// The questions of a message with these parts, by what its signer's tests answered.
-fn questions_for(store: &[u8], m: MessageParts, judged: SignerJudged) -> Prepared
-    requires { length store.now ≡ store_length }
-    ensures { result ≡ prepared_from store.now m judged }
+// The questions of a message with these parts, whose signer passes its tests.
+#[tactic(auto, unfolding(crate::specs::Computed::questions_from))]
+fn questions_for(store: &[u8; STORE_LENGTH], m: &MessageParts, signer: &Identity) -> Prepared
+    ensures { (prepared_answer (Ok result) ≡ questions_from store.now m.now signer.now) × CertificateAsked (Ok result) }
 {
-    let number = judged.number;
-    if number != ACCEPTED {
-        return unprepared(number);
-    }
-    let signed = m.signed;
-    let key = judged.signer.key;
-    let signature = m.signature.octets;
-    let signer = m.headers.signer;
     Prepared {
-        number: ACCEPTED,
-        message: question_of(signed, key, signature),
-        certificate: certificate_question(store, signer, judged.signer.issuer),
+        message: question_of(m.signed, signer.key, m.signature.octets),
+        certificate: certificate_question(store, m.signer, signer.issuer),
     }
-}
-
-// The signature questions of a message, if it passes all other tests.
-fn prepare_in(store: &[u8], message: &[u8], x: Situation) -> Prepared
-    ensures { result ≡ preparation store.now message.now x }
-{
-    let read = opened(store, message, x);
-    let MessageRead::Value {
-        message: m,
-        next: _,
-    } = read
-    else {
-        return unprepared(read.refusal());
-    };
-    let own = Position {
-        latitude: x.latitude,
-        longitude: x.longitude,
-    };
-    let fields = m.headers.fields;
-    if m.headers.signer.form == CARRIED {
-        let at = m.headers.signer.signed.start;
-        let judged = carried_signer(store, message, at, fields, own);
-        return questions_for(store, m, judged);
-    }
-    let digest = m.headers.signer.digest;
-    let judged = named_signer(store, message, digest, fields, own);
-    questions_for(store, m, judged)
-}
-
-// The decision on a message with these parts, by what its signer's tests answered and the chip's verdicts.
-fn decision_for(m: MessageParts, judged: SignerJudged, verdict: u8, certified: u8) -> Decision
-    ensures { result ≡ decided_from m judged verdict certified }
-{
-    let number = judged.number;
-    if number != ACCEPTED {
-        return undecided(number);
-    }
-    if (m.headers.signer.form == CARRIED) & (certified != GOOD) {
-        return undecided(BAD_SIGNATURE);
-    }
-    if verdict != GOOD {
-        return undecided(BAD_SIGNATURE);
-    }
-    let payload = m.payload;
-    let signer = judged.signer.id;
-    Decision {
-        number: ACCEPTED,
-        payload,
-        signer,
-        permission: m.headers.fields.aid.value,
-        generation: m.headers.fields.generation.time,
-    }
-}
-
-// Decides a message, by the chip's verdicts on its signature and on that of the certificate that it carries.
-fn decide_in(store: &[u8], message: &[u8], x: Situation, verdict: u8, certified: u8) -> Decision
-    ensures { result ≡ decision store.now message.now x verdict certified }
-{
-    let read = opened(store, message, x);
-    let MessageRead::Value {
-        message: m,
-        next: _,
-    } = read
-    else {
-        return undecided(read.refusal());
-    };
-    let own = Position {
-        latitude: x.latitude,
-        longitude: x.longitude,
-    };
-    let fields = m.headers.fields;
-    if m.headers.signer.form == CARRIED {
-        let at = m.headers.signer.signed.start;
-        let judged = carried_signer(store, message, at, fields, own);
-        return decision_for(m, judged, verdict, certified);
-    }
-    let digest = m.headers.signer.digest;
-    let judged = named_signer(store, message, digest, fields, own);
-    decision_for(m, judged, verdict, certified)
 }
 
 // Gives the signature questions of a message. It refuses as `decide` with good verdicts.
-pub fn prepare(
-    store: &[u8],
-    message: &[u8],
-    time: u64,
-    latitude: i32,
-    longitude: i32,
-    age: u64,
-) -> Prepared
-    ensures { ◌≡◌ {A = Prepared × List ℕ} (result, store.now) (preparation store.now message.now (situation time latitude longitude age), store.now) }
+pub fn prepare(store: &[u8], message: &[u8], x: &Situation) -> Result<Prepared, Refusal>
+    ensures { (prepared_answer result ≡ preparation store.now message.now x.now) × CertificateAsked result }
 {
-    prepare_in(
-        store,
-        message,
-        Situation {
-            time,
-            latitude,
-            longitude,
-            age,
-        },
-    )
+    let Ok(store) = <&[u8; STORE_LENGTH]>::try_from(store) else {
+        return Err(Refusal::BadCall);
+    };
+    let m = opened(store, message, x)?;
+    let signer = judged(store, message, &m, x.position)?;
+    Ok(questions_for(store, &m, &signer))
+}
+
+// Whether the verdict on the certificate that a message carries is lacking.
+fn uncertified(signer: SignerParts, certified: u8) -> bool
+    ensures { result ≡ (carries_in signer && not (eqb certified GOOD)) }
+{
+    match signer {
+        SignerParts::Named(_) => false,
+        SignerParts::Carried { .. } => certified != GOOD,
+    }
+}
+
+// The decision on a message with these parts, whose signer passes its tests, by the chip's verdicts.
+#[tactic(auto, using(octets::proofs::Outcomes::reading), unfolding(crate::specs::Computed::verified_from))]
+fn decision_for(
+    m: &MessageParts,
+    signer: &Identity,
+    verdict: u8,
+    certified: u8,
+) -> Result<Decision, Refusal>
+    ensures { decided_answer result ≡ verified_from m.now signer.now verdict certified }
+{
+    if uncertified(m.signer, certified) {
+        return Err(Refusal::BadSignature);
+    }
+    if verdict != GOOD {
+        return Err(Refusal::BadSignature);
+    }
+    let id = signer.id;
+    Ok(Decision {
+        payload: m.payload,
+        signer: id,
+        permission: its_aid(&m.fields),
+        generation: generated(&m.fields),
+    })
 }
 
 // Decides a message. A verdict is the chip's octet, 1 for good; the certificate's is ignored where the message carries none.
 pub fn decide(
     store: &[u8],
     message: &[u8],
-    time: u64,
-    latitude: i32,
-    longitude: i32,
-    age: u64,
+    x: &Situation,
     verdict: u8,
     certified: u8,
-) -> Decision
-    ensures { ◌≡◌ {A = Decision × List ℕ} (result, store.now) (decision store.now message.now (situation time latitude longitude age) verdict certified, store.now) }
+) -> Result<Decision, Refusal>
+    ensures { decided_answer result ≡ decision store.now message.now x.now verdict certified }
 {
-    decide_in(
-        store,
-        message,
-        Situation {
-            time,
-            latitude,
-            longitude,
-            age,
-        },
-        verdict,
-        certified,
-    )
+    let Ok(store) = <&[u8; STORE_LENGTH]>::try_from(store) else {
+        return Err(Refusal::BadCall);
+    };
+    let m = opened(store, message, x)?;
+    let signer = judged(store, message, &m, x.position)?;
+    decision_for(&m, &signer, verdict, certified)
 }

@@ -2,7 +2,7 @@
 use mathlib.Core.Path.{◌≡◌, refl, sym, ap, ◌∙◌}
 use mathlib.Core.Bool.{Bool, true, false, not}
 use mathlib.Core.List.{List}
-use mathlib.Core.Option.{none, some}
+use Rattle.std.specs.Prelude.{None, Some}
 use Prim.Native.Nat.{ℕ, ◌≤◌, ◌<◌}
 use lib.ListN.{length}
 use lib.Seq.{take_all}
@@ -30,7 +30,7 @@ pub record Held (s id : List ℕ) (c : ℕ) : Type 0 where
   pub long : length s ≡ store_length
   pub id_long : length id ≡ 8
   pub good : valid_store s ≡ true
-  pub found : find s (number id) ≡ some c
+  pub found : find s (number id) ≡ Some c
   pub not_withdrawn : withdrawn_in s (number id) ≡ false
 
 pub asked_held : (s id : List ℕ) (c : ℕ) → asked s id ≡ gives c → Held s id c
@@ -38,21 +38,17 @@ unfolding asked
 asked_held s id c e =
     let g = (gives_exactly (asking s id) c).0 e in
     let i = g.1.1.1.0 in
-    let found : find s (number id) ≡ some i = slot_given UNKNOWN _ i g.1.1.1.1 in
+    let found : find s (number id) ≡ Some i = slot_given UNKNOWN _ i g.1.1.1.1 in
     record {
       long = eqb-true _ _ g.0;
       id_long = eqb-true _ _ g.1.0;
       good = g.1.1.0;
-      found = found ∙ ap (λ (n : ℕ). some n) (sym g.1.1.1.2.1);
+      found = found ∙ ap (λ (n : ℕ). Some n) (sym g.1.1.1.2.1);
       not_withdrawn = not-true _ g.1.1.1.2.0;
     }
 
 pub held_below : (s id : List ℕ) (c : ℕ) → Held s id c → c < 64
 held_below s id c h = (find_finds s (number id) c h.found).0
-
-pub held_gone : (s : List ℕ) (i : ℕ) → withdrawn_in s (id_at s i) ≡ true → refused WITHDRAWN ≡ held_at s i
-unfolding held_at
-held_gone s i e = rw e
 
 pub held_still : (s : List ℕ) (i : ℕ) → withdrawn_in s (id_at s i) ≡ false → gives i ≡ held_at s i
 unfolding held_at
@@ -83,10 +79,10 @@ module _ (s id : List ℕ) where
         unfolding asked
         to_find = passes (eq-eqb _ _ long) _ _ ∙ passes (eq-eqb _ _ id_long) _ _ ∙ passes good _ _
 
-        pub asked_unknown : find s (number id) ≡ none → refused UNKNOWN ≡ asked s id
+        pub asked_unknown : find s (number id) ≡ None → refused UNKNOWN ≡ asked s id
         asked_unknown e = sym (to_find ∙ halts (ap (slot_or UNKNOWN) e) _)
 
-        pub asked_at : (c : ℕ) → find s (number id) ≡ some c → held_at s c ≡ asked s id
+        pub asked_at : (c : ℕ) → find s (number id) ≡ Some c → held_at s c ≡ asked s id
         unfolding held_at run
         asked_at c e = by (withdrawn_in s (number id)) refl
           where

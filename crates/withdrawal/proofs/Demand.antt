@@ -3,7 +3,7 @@ use mathlib.Core.Path.{◌≡◌, refl, sym, ap, subst₂, ◌∙◌}
 use mathlib.Core.Logic.{◌↔◌}
 use mathlib.Core.Bool.{Bool, true, false, not, ◌&&◌, false≢true}
 use mathlib.Core.List.{List, [], Memᴰ}
-use mathlib.Core.Option.{some}
+use Rattle.std.specs.Prelude.{Some}
 use Prim.Native.Nat.{ℕ, ◌≤◌, ◌<◌, zero-le}
 use native.Mathlib.Omega.{arith}
 use lib.ListN.{length, get_or, take}
@@ -63,7 +63,7 @@ module _ (s : List ℕ) (c t : ℕ) (id l : List ℕ) (asks : Asked s c id l) wh
   size : length s ≡ store_length
   size = asks.valid.size
 
-  found : find s (number id) ≡ some c
+  found : find s (number id) ≡ Some c
   found = ap (find s) (sym asks.id_of_lem) ∙ find_only s asks.valid.distinct c asks.stored.slot asks.stored.filled
 
   place : asked s id ≡ gives c

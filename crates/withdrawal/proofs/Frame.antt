@@ -3,7 +3,7 @@
 use mathlib.Core.Path.{◌≡◌, refl, sym, ap, ap₂, subst, ◌∙◌, fun_ext}
 use mathlib.Core.Bool.{Bool, true, false, not, ◌&&◌, ◌||◌}
 use mathlib.Core.List.{List}
-use mathlib.Core.Option.{Option, none, some}
+use Rattle.std.specs.Prelude.{Option, None, Some}
 use Prim.Native.Nat.{ℕ, ◌+◌, ◌-◌, ◌<◌}
 use native.Mathlib.Omega.{arith}
 use lib.Dec.{eqb}
@@ -19,8 +19,7 @@ use Rattle.store.specs.Laws.{Distinct}
 use Rattle.store.proofs.Found.{find_finds}
 use Rattle.store.proofs.Withdrawn.{id_kept, issuer_kept, scope_kept, filled_kept, withdrawn_kept, find_kept}
 use Rattle.chain.specs.declared.subjects.Subject.{Subject}
-use Rattle.chain.specs.declared.subjects.Place.{Place}
-use Rattle.chain.specs.declared.subjects.Place.TheVariants.{Anywhere}
+use Rattle.chain.specs.Places.{Place}
 use Rattle.chain.specs.Walk.{own_rows, walk}
 use Rattle.chain.specs.Chains.{Sound, Chain}
 use Rattle.chain.specs.Laws.{StoredIn, Passed}
@@ -48,8 +47,8 @@ unfolding also_at
 also_other s c y n = by (find s y) refl
   where
     by : (o : Option ℕ) → find s y ≡ o → (at_found (λ i. eqb i c) o || withdrawn_in s y) ≡ withdrawn_in s y
-    by none e = refl
-    by (some i) e = rw (ne_eqb i c (λ q. n (sym (find_finds s y i e).2 ∙ ap (id_at s) q)))
+    by None e = refl
+    by (Some i) e = rw (ne_eqb i c (λ q. n (sym (find_finds s y i e).2 ∙ ap (id_at s) q)))
 
 or_right : (a b : Bool) → (a || b) ≡ false → b ≡ false
 or_right true b e = let z : ◌≡◌ {A = ℕ} 0 1 = cc in absurd (omega arith)
@@ -67,8 +66,8 @@ module _ (s : List ℕ) (c : ℕ) (are : Octets s) (size : length s ≡ store_le
       λ d. record { id = a d; issuer = issuer_kept s c are size h i hi d; scope = scope_kept s c are size h i hi d }
 
   or_kept : (x : ℕ) (o : Option ℕ) → find s x ≡ o → subject_or UNKNOWN (after s c) o ≡ subject_or UNKNOWN s o
-  or_kept x none e = refl
-  or_kept x (some i) e = ap (λ (d : Subject). gives d) (subject_kept i (find_finds s x i e).0)
+  or_kept x None e = refl
+  or_kept x (Some i) e = ap (λ (d : Subject). gives d) (subject_kept i (find_finds s x i e).0)
 
   issuer_same : issuer_in (after s c) ≡ issuer_in s
   unfolding issuer_in
@@ -76,8 +75,8 @@ module _ (s : List ℕ) (c : ℕ) (are : Octets s) (size : length s ≡ store_le
       fun_ext (λ x. ap (subject_or UNKNOWN (after s c)) (find_kept s c are size h filled x.issuer) ∙ or_kept x.issuer (find s x.issuer) refl)
 
   found_kept : (x : ℕ) (o : Option ℕ) → find s x ≡ o → at_found (withdrawn_at (after s c)) o ≡ (at_found (λ i. eqb i c) o || at_found (withdrawn_at s) o)
-  found_kept x none e = refl
-  found_kept x (some i) e = withdrawn_kept s c are size h i (find_finds s x i e).0
+  found_kept x None e = refl
+  found_kept x (Some i) e = withdrawn_kept s c are size h i (find_finds s x i e).0
 
   -- what counts as withdrawn after: what did, and c
   pub gone_after : (x : ℕ) → withdrawn_in (after s c) x ≡ also_at s c x
@@ -92,9 +91,9 @@ module _ (s : List ℕ) (c : ℕ) (are : Octets s) (size : length s ≡ store_le
   unfolding stands
   stands_after t i hi =
       ap₂ (λ (f : Bool) (n : ℕ). f && eqb n 0) (filled_kept s c are size h filled i hi)
-      (ap (λ (g : ℕ → Bool). walk_number g (after s c) t Anywhere followers (subject_at (after s c) i)) (fun_ext gone_after)
-      ∙ walk_same (also_at s c) t Anywhere followers (subject_at (after s c) i)
-      ∙ ap (walk_number (also_at s c) s t Anywhere followers) (subject_kept i hi))
+      (ap (λ (g : ℕ → Bool). walk_number g (after s c) t None followers (subject_at (after s c) i)) (fun_ext gone_after)
+      ∙ walk_same (also_at s c) t None followers (subject_at (after s c) i)
+      ∙ ap (walk_number (also_at s c) s t None followers) (subject_kept i hi))
 
   -- how the code asks for it
   pub falls_with_lem : (t i : ℕ) → i < 64 → falls_with s t c i ≡ falls s (after s c) t i
@@ -107,7 +106,7 @@ module _ (s : List ℕ) (c : ℕ) (are : Octets s) (size : length s ≡ store_le
   fewer_stand t i hi e =
       let k = and_split (filled_at s i) _ (sym (stands_after t i hi) ∙ e) in
       and_join (filled_at s i) _ k.0
-      (eq-eqb _ 0 (laws.fewer (withdrawn_in s) (also_at s c) (also_more s c) s t Anywhere followers (subject_at s i) (eqb-true _ 0 k.1)))
+      (eq-eqb _ 0 (laws.fewer (withdrawn_in s) (also_at s c) (also_more s c) s t None followers (subject_at s i) (eqb-true _ 0 k.1)))
 
   -- who stood before and does not after stood through c, which stood too
   pub stood : Distinct s → (t i : ℕ) → i < 64 → stands s t i ≡ true → ¬ (stands (after s c) t i ≡ true) → stands s t c ≡ true
@@ -116,11 +115,11 @@ module _ (s : List ℕ) (c : ℕ) (are : Octets s) (size : length s ≡ store_le
       fi : filled_at s i ≡ true
       fi = stands_filled s t i e
 
-      passed : Passed (issuer_in s) (λ d. Sound (withdrawn_in s) t Anywhere d × StoredIn s d) (id_at s c) 7
+      passed : Passed (issuer_in s) (λ d. Sound (withdrawn_in s) t None d × StoredIn s d) (id_at s c) 7
       passed =
-          passed_stored (withdrawn_in s) (also_at s c) (id_at s c) (also_other s c) s t Anywhere followers (subject_at s i)
+          passed_stored (withdrawn_in s) (also_at s c) (id_at s c) (also_other s c) s t None followers (subject_at s i)
           (record { slot = i; below = hi; filled = fi; here = refl }) ((stands_exactly s t i fi).0 e)
-          (λ k. n (stands_after t i hi ∙ and_join (filled_at s i) _ fi (eq-eqb _ 0 ((accepted_exactly (also_at s c) s t Anywhere followers (subject_at s i)).1 k))))
+          (λ k. n (stands_after t i hi ∙ and_join (filled_at s i) _ fi (eq-eqb _ 0 ((accepted_exactly (also_at s c) s t None followers (subject_at s i)).1 k))))
 
       stored : StoredIn s passed.certificate
       stored = (chains.chain_own (issuer_in s) passed.chain).1
@@ -130,8 +129,8 @@ module _ (s : List ℕ) (c : ℕ) (are : Octets s) (size : length s ≡ store_le
           let same : stored.slot ≡ c = distinct stored.slot c stored.below h stored.filled filled (id_of_lem s stored.slot ∙ ap (λ (d : Subject). d.id) stored.here ∙ passed.is) in
           sym stored.here ∙ ap (subject_at s) same
 
-      chain : Chain (issuer_in s) (Sound (withdrawn_in s) t Anywhere) 7 passed.certificate
+      chain : Chain (issuer_in s) (Sound (withdrawn_in s) t None) 7 passed.certificate
       chain =
           let sum : passed.after + (7 - passed.after) ≡ 7 = omega (arith, passed.no_more) in
-          chain_map (issuer_in s) (λ d w. w.0) (subst (λ (m : ℕ). Chain (issuer_in s) (λ d. Sound (withdrawn_in s) t Anywhere d × StoredIn s d) m passed.certificate) sum
+          chain_map (issuer_in s) (λ d w. w.0) (subst (λ (m : ℕ). Chain (issuer_in s) (λ d. Sound (withdrawn_in s) t None d × StoredIn s d) m passed.certificate) sum
           (chains.more_by (issuer_in s) passed.after (7 - passed.after) passed.chain))

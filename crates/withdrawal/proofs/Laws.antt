@@ -3,7 +3,7 @@ use mathlib.Core.Path.{◌≡◌, refl, sym, ap, ◌∙◌}
 use mathlib.Core.Logic.{◌↔◌, inr}
 use mathlib.Core.Bool.{true}
 use mathlib.Core.List.{List}
-use mathlib.Core.Option.{some}
+use Rattle.std.specs.Prelude.{Some}
 use Prim.Native.Nat.{ℕ, ◌<◌}
 use lib.Dec.{eqb}
 use Rattle.order.specs.Steps.{Answer, gives, refused, rows, First, run}
@@ -38,7 +38,7 @@ askable s id c h =
 
 pub asked_from : (s id : List ℕ) (c : ℕ) → Askable s id c → asked s id ≡ gives c
 asked_from s id c a =
-    let found : find s (number id) ≡ some c = ap (find s) (sym a.id_of_lem) ∙ find_only s a.valid.distinct c a.slot a.filled in
+    let found : find s (number id) ≡ Some c = ap (find s) (sym a.id_of_lem) ∙ find_only s a.valid.distinct c a.slot a.filled in
     sym (asked_at s id a.valid.size a.id_long (((validity.laws).valid_exactly s).1 a.valid) c found)
     ∙ sym (held_still s c (ap (withdrawn_in s) a.id_of_lem ∙ a.not_withdrawn))
 

@@ -6,12 +6,6 @@ use Rattle.store.specs.Slots.{id_at}
 use Rattle.store.specs.Withdrawn.{withdrawn_in}
 use Rattle.chain.specs.Stored.{stands_by}
 use Rattle.chain.specs.Computed.{no_slot, also_at}
-use Rattle.withdrawal.specs.declared.asking.Asked.{Asked}
-use Rattle.withdrawal.specs.declared.asking.Asked.TheVariants.{Held, Refused}
-
-abbrev pub asked_of : Asked → Answer ℕ
-asked_of (Held c) = gives c
-asked_of (Refused k) = refused k
 
 -- a slot that was found, unless its certificate counts as withdrawn
 unfoldable pub held_at : List ℕ → ℕ → Answer ℕ

@@ -1,50 +1,43 @@
-ghost use Rattle.std.specs.Prelude.{◌≡◌, ◌<◌, length};
-ghost use Rattle.std.proofs.Math.Option.{some};
+ghost use Rattle.std.specs.Prelude.{◌≡◌, Some};
+ghost use Rattle.chain.specs.Outcomes.{outcome_of};
 ghost use Rattle.withdrawal.specs.Order.{asked};
-ghost use Rattle.withdrawal.specs.Computed.{asked_of, held_at};
-ghost use Rattle.store.specs.Slots.{slot_count, store_length, id_at};
+ghost use Rattle.withdrawal.specs.Computed.{held_at};
+ghost use Rattle.store.specs.Slots.{id_at};
 ghost use Rattle.store.specs.Search.{find};
 
 use bitfields::reading::window;
-use octets::refusals::{BAD_CALL, BAD_STORE, UNKNOWN, WITHDRAWN};
-use store::search::{Found, find_id};
+use octets::refusals::Refusal;
+use records::layout::ID_LENGTH;
+use store::search::find_id;
 use store::sizes::STORE_LENGTH;
+use store::slot::Slot;
 use store::withdrawals::withdrawn;
 use validity::valid;
 
-// The slot of the certificate that is asked for, or the number of the refusal.
-#[derive(Clone, Copy)]
-pub enum Asked {
-    Held(usize),
-    Refused(u8),
-}
-
 // A slot that its id finds, unless it is withdrawn.
-fn held(store: &[u8], slot: usize) -> Asked
-    requires { (slot < slot_count) × (length store.now ≡ store_length) × (find store.now (id_at store.now slot) ≡ some slot) }
-    ensures { asked_of result ≡ held_at store.now slot }
+#[tactic(auto, unfolding(crate::specs::Computed::held_at))]
+fn held(store: &[u8; STORE_LENGTH], slot: Slot) -> Result<Slot, Refusal>
+    requires { find store.now (id_at store.now slot) ≡ Some slot }
+    ensures { outcome_of result ≡ held_at store.now slot }
 {
     if withdrawn(store, slot) {
-        return Asked::Refused(WITHDRAWN);
+        return Err(Refusal::Withdrawn);
     }
-    Asked::Held(slot)
+    Ok(slot)
 }
 
-// The tests that list and withdraw share.
-pub fn ask(store: &[u8], id: &[u8]) -> Asked
-    ensures { asked_of result ≡ asked store.now id.now }
+// The slot of the certificate that is asked for, by the tests that list and withdraw share.
+pub fn ask(store: &[u8; STORE_LENGTH], id: &[u8]) -> Result<Slot, Refusal>
+    ensures { outcome_of result ≡ asked store.now id.now }
 {
-    if store.len() != STORE_LENGTH {
-        return Asked::Refused(BAD_CALL);
-    }
-    if id.len() != 8 {
-        return Asked::Refused(BAD_CALL);
-    }
+    let Some(id) = id.as_array::<ID_LENGTH>() else {
+        return Err(Refusal::BadCall);
+    };
     if !valid(store) {
-        return Asked::Refused(BAD_STORE);
+        return Err(Refusal::BadStore);
     }
     match find_id(store, window(id, 0)) {
-        Found::Nowhere => Asked::Refused(UNKNOWN),
-        Found::At(slot) => held(store, slot),
+        None => Err(Refusal::Unknown),
+        Some(slot) => held(store, slot),
     }
 }

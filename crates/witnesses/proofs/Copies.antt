@@ -2,7 +2,7 @@
 use Prim.Native.Nat.{ℕ, ◌+◌}
 use mathlib.Core.Path.{◌≡◌, refl, sym, ap, subst, ◌∙◌}
 use mathlib.Core.Bool.{true, false, not}
-use mathlib.Core.Option.{Option, some}
+use Rattle.std.specs.Prelude.{Option, None, Some}
 use mathlib.Core.List.{List}
 use lib.ListN.{replicate}
 use Rattle.order.specs.Steps.{Answer, gives, refused, done, take, run, first_of, Well, well}
@@ -12,7 +12,6 @@ use Rattle.octets.specs.Numbers.{big_endian_on, leading_ones, octet_at, unsigned
 use Rattle.octets.specs.Elements.{exactly_at}
 use Rattle.octets.specs.Reading.{got}
 use Rattle.octets.specs.Vectors.{span_at, run_at, part, nowhere}
-use Rattle.geo.specs.Tests.{some_of, each_of}
 use Rattle.geo.specs.Area.{inside_of, in_region}
 use Rattle.attributes.specs.Points.{point_at}
 use Rattle.attributes.specs.Keys.{verification_key_at, encryption_key_at}
@@ -28,8 +27,8 @@ use Rattle.certificate.specs.Bodies.{attributes_at, restrictions_at}
 use Rattle.certificate.specs.Signatures.{signature_at}
 use Rattle.certificate.specs.Certificates.{certificate_at}
 use Rattle.certificate.specs.declared.certificates.Certificate.{Certificate}
-use Rattle.headers.specs.Times.{unexpiring, generation_at, deviation_at, expiration_at}
-use Rattle.headers.specs.Locations.{unlocated, location_at}
+use Rattle.headers.specs.Times.{generation_at, deviation_at, expiration_at}
+use Rattle.headers.specs.Locations.{location_at}
 use Rattle.headers.specs.Digests.{digests_at}
 use Rattle.headers.specs.Aids.{aid_at}
 use Rattle.headers.specs.Fields.{fields_in}
@@ -55,9 +54,8 @@ use Rattle.signing.specs.Places.{position_of}
 use Rattle.signing.specs.Copies.{comparing, copying}
 use Rattle.store.specs.Copies.{same_octets}
 use Rattle.signing.specs.Signers.{subject_of, allowed}
-use Rattle.verification.specs.Order.{own_position, Passed, passed, judging, question, decision, undecided, preparation, certificate_question}
+use Rattle.verification.specs.Order.{own_position, Passed, passed, judging, question, decision, undecided, Prepared, preparation, certificate_question}
 use Rattle.verification.specs.declared.judging.Situation.{Situation}
-use Rattle.verification.specs.declared.operations.Prepared.{Prepared}
 use Rattle.witnesses.specs.Inputs.{anchor, pass, pass_id, message, at}
 use Rattle.witnesses.specs.Table.{EachReached, AllReached, unjudged, carried, copies}
 use Rattle.witnesses.proofs.Opened.{Open, Allowed, by_signer, in_time_by, judged, decided, prepared, both}
@@ -75,10 +73,10 @@ message_of_lem c payload =
       headers = record {
         signer = record { form = 2; digest = nowhere; certificate = c };
         fields = record {
-          generation = record { given = true; time = 220000000 };
-          expiration = unexpiring;
-          location = unlocated;
-          aid = record { given = true; value = 36 };
+          generation = Some 220000000;
+          expiration = None;
+          location = None;
+          aid = Some 36;
         };
       };
       payload = part payload 2;
@@ -122,7 +120,7 @@ other_octets : same_octets (slot_of took 0) same ≡ false
 unfolding took same image_put items_of items_put run_put digits_put with_digits octets same_octets
 other_octets = refl
 
-copy_found : find took (number anchor_kept.id) ≡ some 0
+copy_found : find took (number anchor_kept.id) ≡ Some 0
 unfolding took image_put items_of items_put run_put digits_put with_digits octets find lowest_from state_at id_at field digits_at number
 copy_found = refl
 
@@ -157,11 +155,11 @@ pass_judged =
     ∙ ap (behind chained (at 220000000) (message_of_lem (pass_at 5) 146) pass_kept) copy_none
 
 accepted : decision chained (carried pass) (at 220000000) 1 1 ≡ record { number = 0; payload = part 146 2; signer = pass_id; permission = 36; generation = 220000000 }
-unfolding run chained image_put items_of items_put run_put digits_put with_digits octets find lowest_from state_at id_at field digits_at number record_of fields_of region_of permissions_of scope_of subject_of issuer_at subject_at issuer_in withdrawn_in walk first_of some_of each_of inside_of in_region position_of
+unfolding run chained image_put items_of items_put run_put digits_put with_digits octets find lowest_from state_at id_at field digits_at number record_of fields_of region_of permissions_of scope_of subject_of issuer_at subject_at issuer_in withdrawn_in walk first_of inside_of in_region position_of
 accepted = decided chained (carried pass) (at 220000000) _ pass_judged 1 1
 
 uncertified : decision chained (carried pass) (at 220000000) 1 0 ≡ undecided 15
-unfolding run chained image_put items_of items_put run_put digits_put with_digits octets find lowest_from state_at id_at field digits_at number record_of fields_of region_of permissions_of scope_of subject_of issuer_at subject_at issuer_in withdrawn_in walk first_of some_of each_of inside_of in_region position_of
+unfolding run chained image_put items_of items_put run_put digits_put with_digits octets find lowest_from state_at id_at field digits_at number record_of fields_of region_of permissions_of scope_of subject_of issuer_at subject_at issuer_in withdrawn_in walk first_of inside_of in_region position_of
 uncertified = decided chained (carried pass) (at 220000000) _ pass_judged 1 0
 
 abbrev questions : Prepared
@@ -173,7 +171,7 @@ questions =
     }
 
 asked : preparation chained (carried pass) (at 220000000) ≡ questions
-unfolding run chained image_put items_of items_put run_put digits_put with_digits octets find lowest_from state_at id_at field digits_at number record_of fields_of region_of permissions_of scope_of subject_of issuer_at subject_at issuer_in withdrawn_in walk first_of some_of each_of inside_of in_region position_of certificate_question fields_at big_endian_octets intx_octets
+unfolding run chained image_put items_of items_put run_put digits_put with_digits octets find lowest_from state_at id_at field digits_at number record_of fields_of region_of permissions_of scope_of subject_of issuer_at subject_at issuer_in withdrawn_in walk first_of inside_of in_region position_of certificate_question fields_at big_endian_octets intx_octets
 asked = prepared chained (carried pass) (at 220000000) _ pass_judged
 
 pub copies_reached : AllReached copies

@@ -2,7 +2,7 @@
 use Prim.Native.Nat.{ℕ, ◌<◌}
 use mathlib.Core.Path.{◌≡◌, refl, sym, ◌∙◌}
 use mathlib.Core.Bool.{true, false, not}
-use mathlib.Core.Option.{Option, none, some}
+use Rattle.std.specs.Prelude.{Option, None, Some}
 use mathlib.Core.List.{[], ◌∷◌}
 use lib.ListN.{replicate}
 use lib.IntN.{pos}
@@ -49,12 +49,12 @@ unfilled = refl
 pub empty_states : (i : ℕ) → i < 64 → filled_at empty i ≡ false
 empty_states i h = of_not (filled_at empty i) (each_true (λ j. not (filled_at empty j)) 64 unfilled i h)
 
-pub empty_finds : (id : ℕ) → find empty id ≡ none
+pub empty_finds : (id : ℕ) → find empty id ≡ None
 empty_finds id = by (find empty id) refl
   where
-    by : (o : Option ℕ) → find empty id ≡ o → find empty id ≡ none
-    by none e = e
-    by (some i) e = let f = find_finds empty id i e in absurd (never (sym (empty_states i f.0) ∙ f.1))
+    by : (o : Option ℕ) → find empty id ≡ o → find empty id ≡ None
+    by None e = e
+    by (Some i) e = let f = find_finds empty id i e in absurd (never (sym (empty_states i f.0) ∙ f.1))
 
 short_store : EachReached (unjudged [] [] (at 0) 1)
 unfolding run

@@ -2,7 +2,7 @@
 use Prim.Native.Nat.{ℕ}
 use mathlib.Core.Path.{◌≡◌, refl, sym, ap, subst, ◌∙◌}
 use mathlib.Core.Bool.{Bool, true, false}
-use mathlib.Core.Option.{none, some}
+use Rattle.std.specs.Prelude.{None, Some}
 use mathlib.Core.List.{List, [], ◌∷◌}
 use mathlib.Core.Logic.{◌≢◌}
 use lib.Dec.{eqb}
@@ -11,7 +11,6 @@ use lib.ListN.{replicate}
 use Rattle.order.specs.Steps.{run}
 use Rattle.octets.specs.Numbers.{octet_at}
 use Rattle.octets.specs.Elements.{exactly_at}
-use Rattle.geo.specs.Tests.{some_of, each_of}
 use Rattle.geo.specs.Area.{inside_of}
 use Rattle.certificate.specs.Heads.{signer_at, kind_at, head_at}
 use Rattle.certificate.specs.Certificates.{certificate_at}
@@ -98,10 +97,10 @@ module _ (root : Bool) (store octets : List ℕ) (verdict : ℕ) (o : Open store
   pub stops : (k : ℕ) → k ≡ test_number root store r verdict → ¬ (k ≡ 0) → entered root store octets verdict ≡ (k, store)
   stops k e z = as_record ∙ sym (placed_stops root store r verdict k e z)
 
-  pub full_at : test_number root store r verdict ≡ 0 → lowest_empty store ≡ none → entered root store octets verdict ≡ (16, store)
+  pub full_at : test_number root store r verdict ≡ 0 → lowest_empty store ≡ None → entered root store octets verdict ≡ (16, store)
   full_at e n = as_record ∙ sym (placed_full root store r verdict e n)
 
-  pub goes_to : test_number root store r verdict ≡ 0 → (i : ℕ) → lowest_empty store ≡ some i → entered root store octets verdict ≡ (0, with_slot store i (image_of r))
+  pub goes_to : test_number root store r verdict ≡ 0 → (i : ℕ) → lowest_empty store ≡ Some i → entered root store octets verdict ≡ (0, with_slot store i (image_of r))
   goes_to e i n = as_record ∙ sym (placed_slot root store r verdict e i n)
 
 pub took_open : Open took
@@ -109,7 +108,7 @@ unfolding took image_put items_of items_put run_put digits_put with_digits octet
 took_open = record { size = refl; good = refl }
 
 anchor_taken_test : ◌≡◌ {A = ℕ} 17 (test_number true took anchor_kept 1)
-unfolding took image_put items_of items_put run_put digits_put with_digits octets test_number run find lowest_from state_at id_at field digits_at number fields_of region_of permissions_of scope_of some_of each_of inside_of
+unfolding took image_put items_of items_put run_put digits_put with_digits octets test_number run find lowest_from state_at id_at field digits_at number fields_of region_of permissions_of scope_of inside_of
 anchor_taken_test = refl
 
 anchor_taken : installed took anchor 1 ≡ (17, took)
@@ -117,7 +116,7 @@ unfolding fields_at
 anchor_taken = stops true took anchor 1 took_open (anchor_at 0) anchor_kept anchor_read anchor_record refl 17 anchor_taken_test (omega arith)
 
 pass_taken_test : ◌≡◌ {A = ℕ} 17 (test_number false took pass_kept 1)
-unfolding took image_put items_of items_put run_put digits_put with_digits octets test_number run find lowest_from state_at id_at field digits_at number fields_of region_of permissions_of scope_of some_of each_of inside_of
+unfolding took image_put items_of items_put run_put digits_put with_digits octets test_number run find lowest_from state_at id_at field digits_at number fields_of region_of permissions_of scope_of inside_of
 pass_taken_test = refl
 
 pass_taken : admitted took pass 1 ≡ (17, took)
@@ -138,7 +137,7 @@ anchor_unverified =
     stops true empty anchor 0 empty_open (anchor_at 0) anchor_kept anchor_read anchor_record refl 15
     (test_signature true empty anchor_kept 0 anchor_new (sym (anchor_passes true empty anchor_kept refl)) refl) (omega arith)
 
-empty_slot : lowest_empty empty ≡ some 0
+empty_slot : lowest_empty empty ≡ Some 0
 unfolding empty lowest_empty lowest_from state_at field digits_at number
 empty_slot = refl
 
@@ -150,14 +149,14 @@ anchor_installed =
 
 -- ---- the ticket, by its issuer
 
-module _ (store : List ℕ) (verdict : ℕ) (new : find store (number pass_id) ≡ none) where
+module _ (store : List ℕ) (verdict : ℕ) (new : find store (number pass_id) ≡ None) where
   -- the tests of the issuer decide
   by_issuer : (k : ℕ) → issuer_number store (number (eight 0x02)) pass_kept.scope ≡ k → ¬ (k ≡ 0) → k ≡ test_number false store pass_kept verdict
   by_issuer k e z =
       let f : issuer_refusal false store pass_kept ≡ k = sym (issuer_asked false store pass_kept refl) ∙ e in
       sym f ∙ test_issuer false store pass_kept verdict (ap absent new) (λ t. z (sym f ∙ t))
 
-  module _ (i : ℕ) (at : find store (number (eight 0x02)) ≡ some i) where
+  module _ (i : ℕ) (at : find store (number (eight 0x02)) ≡ Some i) where
     pub by_slot : (k : ℕ) → below_number store pass_kept.scope i ≡ k → ¬ (k ≡ 0) → k ≡ test_number false store pass_kept verdict
     by_slot k e z = by_issuer k (sym (issuer_found store (number (eight 0x02)) pass_kept.scope i at) ∙ e) z
 
@@ -192,7 +191,7 @@ unfolding gone image_put items_of items_put run_put digits_put with_digits octet
 gone_kept = record { long = refl; good = refl; filled = refl; has_id_lem = refl }
 
 gone_below : below_number (lone gone) pass_kept.scope 0 ≡ 8
-unfolding gone image_put items_of items_put run_put digits_put with_digits octets empty below_number run state_at field digits_at number fields_of region_of permissions_of scope_of some_of each_of inside_of withdrawn_in find lowest_from id_at
+unfolding gone image_put items_of items_put run_put digits_put with_digits octets empty below_number run state_at field digits_at number fields_of region_of permissions_of scope_of inside_of withdrawn_in find lowest_from id_at
 gone_below = refl
 
 pub gone_reached : admitted gone_issuer pass 1 ≡ (8, gone_issuer)
@@ -203,7 +202,7 @@ unfolding ticket image_put items_of items_put run_put digits_put with_digits oct
 ticket_kept = record { long = refl; good = refl; filled = refl; has_id_lem = refl }
 
 ticket_below : below_number (lone ticket) pass_kept.scope 0 ≡ 10
-unfolding ticket image_put items_of items_put run_put digits_put with_digits octets empty below_number run state_at field digits_at number fields_of region_of permissions_of scope_of some_of each_of inside_of withdrawn_in find lowest_from id_at
+unfolding ticket image_put items_of items_put run_put digits_put with_digits octets empty below_number run state_at field digits_at number fields_of region_of permissions_of scope_of inside_of withdrawn_in find lowest_from id_at
 ticket_below = refl
 
 pub ticket_reached : admitted ticket_issuer pass 1 ≡ (10, ticket_issuer)
@@ -214,7 +213,7 @@ unfolding unpermitted image_put items_of items_put run_put digits_put with_digit
 unpermitted_kept = record { long = refl; good = refl; filled = refl; has_id_lem = refl }
 
 unpermitted_below : below_number (lone unpermitted) pass_kept.scope 0 ≡ 11
-unfolding unpermitted image_put items_of items_put run_put digits_put with_digits octets empty below_number run state_at field digits_at number fields_of region_of permissions_of scope_of some_of each_of inside_of withdrawn_in find lowest_from id_at
+unfolding unpermitted image_put items_of items_put run_put digits_put with_digits octets empty below_number run state_at field digits_at number fields_of region_of permissions_of scope_of inside_of withdrawn_in find lowest_from id_at
 unpermitted_below = refl
 
 pub unpermitted_reached : admitted other_issuer pass 1 ≡ (11, other_issuer)
@@ -225,7 +224,7 @@ unfolding short image_put items_of items_put run_put digits_put with_digits octe
 short_kept = record { long = refl; good = refl; filled = refl; has_id_lem = refl }
 
 short_below : below_number (lone short) pass_kept.scope 0 ≡ 12
-unfolding short image_put items_of items_put run_put digits_put with_digits octets empty below_number run state_at field digits_at number fields_of region_of permissions_of scope_of some_of each_of inside_of withdrawn_in find lowest_from id_at
+unfolding short image_put items_of items_put run_put digits_put with_digits octets empty below_number run state_at field digits_at number fields_of region_of permissions_of scope_of inside_of withdrawn_in find lowest_from id_at
 short_below = refl
 
 pub short_reached : admitted short_issuer pass 1 ≡ (12, short_issuer)
@@ -236,7 +235,7 @@ unfolding bounded image_put items_of items_put run_put digits_put with_digits oc
 bounded_kept = record { long = refl; good = refl; filled = refl; has_id_lem = refl }
 
 bounded_below : below_number (lone bounded) pass_kept.scope 0 ≡ 13
-unfolding bounded image_put items_of items_put run_put digits_put with_digits octets empty below_number run state_at field digits_at number fields_of region_of permissions_of scope_of some_of each_of inside_of withdrawn_in find lowest_from id_at
+unfolding bounded image_put items_of items_put run_put digits_put with_digits octets empty below_number run state_at field digits_at number fields_of region_of permissions_of scope_of inside_of withdrawn_in find lowest_from id_at
 bounded_below = refl
 
 pub bounded_reached : admitted bay_issuer pass 1 ≡ (13, bay_issuer)
@@ -244,19 +243,19 @@ bounded_reached = subst (λ (s : List ℕ). admitted s pass 1 ≡ (13, s)) (sym 
 
 -- ---- the ticket, in `chains`
 
-pub pass_new : find chained (number pass_id) ≡ none
+pub pass_new : find chained (number pass_id) ≡ None
 unfolding chained image_put items_of items_put run_put digits_put with_digits octets find lowest_from state_at id_at field digits_at number
 pass_new = refl
 
-issuer_slot : find chained (number (eight 0x02)) ≡ some 1
+issuer_slot : find chained (number (eight 0x02)) ≡ Some 1
 unfolding chained image_put items_of items_put run_put digits_put with_digits octets find lowest_from state_at id_at field digits_at number
 issuer_slot = refl
 
 issuer_below : below_number chained pass_kept.scope 1 ≡ 0
-unfolding chained image_put items_of items_put run_put digits_put with_digits octets below_number run state_at field digits_at number fields_of region_of permissions_of scope_of some_of each_of inside_of withdrawn_in find lowest_from id_at
+unfolding chained image_put items_of items_put run_put digits_put with_digits octets below_number run state_at field digits_at number fields_of region_of permissions_of scope_of inside_of withdrawn_in find lowest_from id_at
 issuer_below = refl
 
-chained_slot : lowest_empty chained ≡ some 12
+chained_slot : lowest_empty chained ≡ Some 12
 unfolding chained image_put items_of items_put run_put digits_put with_digits octets lowest_empty lowest_from state_at field digits_at number
 chained_slot = refl
 

@@ -3,14 +3,13 @@ use Prim.Native.Nat.{ℕ, zero, suc, ◌+◌, ◌*◌, ◌^◌, ◌≤◌, ◌<�
 use mathlib.Core.Path.{◌≡◌, refl, sym, ap, subst, ◌∙◌}
 use mathlib.Core.Bool.{true, false, not}
 use mathlib.Core.Logic.{inl, inr}
-use mathlib.Core.Option.{Option, none, some}
+use Rattle.std.specs.Prelude.{Option, None, Some}
 use mathlib.Core.List.{List, ◌∷◌, ◌++◌, append_assoc}
 use native.Mathlib.Omega.{arith}
 use borrow.Author.Tests.{eq-eqb}
 use lib.Dec.{eqb}
 use lib.ListN.{length, get_or, take, drop, replicate, length-append}
 use lib.Seq.{take_at, drop-append-add}
-use Rattle.geo.specs.Tests.{some_of, each_of}
 use Rattle.geo.specs.Area.{unused, inside_of}
 use Rattle.order.specs.Steps.{first_of}
 use Rattle.bitfields.specs.Field.{number, field}
@@ -172,25 +171,25 @@ full_open = record { size = eq-eqb (length full) store_length long; good = (laws
 
 -- ---- what is found in it
 
-no_slot : lowest_empty full ≡ none
+no_slot : lowest_empty full ≡ None
 no_slot = by (lowest_empty full) refl
   where
-    by : (o : Option ℕ) → lowest_empty full ≡ o → lowest_empty full ≡ none
-    by none e = e
-    by (some i) e = let f = empty_finds full i e in absurd (omega (arith, f.1, state_full i f.0))
+    by : (o : Option ℕ) → lowest_empty full ≡ o → lowest_empty full ≡ None
+    by None e = e
+    by (Some i) e = let f = empty_finds full i e in absurd (omega (arith, f.1, state_full i f.0))
 
-not_there : (id : ℕ) → 63 * 0x0101010101010101 < id → find full id ≡ none
+not_there : (id : ℕ) → 63 * 0x0101010101010101 < id → find full id ≡ None
 not_there id h = by (find full id) refl
   where
-    by : (o : Option ℕ) → find full id ≡ o → find full id ≡ none
-    by none e = e
-    by (some i) e = let f = find_finds full id i e in absurd (omega (arith, f.0, f.2, id_full i f.0))
+    by : (o : Option ℕ) → find full id ≡ o → find full id ≡ None
+    by None e = e
+    by (Some i) e = let f = find_finds full id i e in absurd (omega (arith, f.0, f.2, id_full i f.0))
 
-no_anchor : find full (number anchor_id) ≡ none
+no_anchor : find full (number anchor_id) ≡ None
 unfolding number
 no_anchor = not_there (number anchor_id) (omega arith)
 
-no_pass : find full (number pass_id) ≡ none
+no_pass : find full (number pass_id) ≡ None
 unfolding number
 no_pass = not_there (number pass_id) (omega arith)
 
@@ -203,7 +202,7 @@ pub anchor_full : installed full anchor 1 ≡ (16, full)
 unfolding fields_at
 anchor_full = full_at true full anchor 1 full_open (anchor_at 0) anchor_kept anchor_read anchor_record refl anchor_passing no_slot
 
-issuer_there : find full (number (eight 0x02)) ≡ some 2
+issuer_there : find full (number (eight 0x02)) ≡ Some 2
 issuer_there =
     let e : number (eight 0x02) ≡ id_at full 2 = number_eight 2 ∙ sym (id_full 2 (omega arith)) in
     ap (find full) e ∙ find_only full valid.distinct 2 (omega arith) (filled 2 (omega arith))
@@ -214,7 +213,7 @@ issuer_scope =
     ap scope_of (slot_full 2 (omega arith)) ∙ ap (λ (r : Record). r.scope) (round_trip (authority 2) (in_range_lem 2 (omega arith)) (sized 2 (omega arith)))
 
 issued : issued_number pass_kept.scope (authority 2).scope ≡ 0
-unfolding issued_number first_of some_of each_of inside_of
+unfolding issued_number first_of inside_of
 issued = refl
 
 issuer_below : below_number full pass_kept.scope 2 ≡ 0

@@ -2,13 +2,12 @@
 use Prim.Native.Nat.{ℕ}
 use mathlib.Core.Path.{◌≡◌, refl, sym, ap, ◌∙◌}
 use mathlib.Core.Bool.{true}
-use mathlib.Core.Option.{some}
+use Rattle.std.specs.Prelude.{Some}
 use mathlib.Core.List.{List, [], ◌∷◌}
 use borrow.Author.Tests.{eqb-true}
 use lib.Dec.{lit≤}
 use lib.ListN.{length, replicate}
 use Rattle.order.specs.Steps.{Answer, gives, refused, run, first_of}
-use Rattle.geo.specs.Tests.{some_of, each_of}
 use Rattle.geo.specs.Area.{inside_of}
 use Rattle.bitfields.specs.Field.{number, digits_at, field, octets, with_digits}
 use Rattle.bitfields.specs.Runs.{fields_of}
@@ -57,7 +56,7 @@ unfolding asked run marked valid_store each_below slot_good good_slot field digi
 bad_store = pair marked (eight 0x02) 2 refl
 
 -- the slot that is asked for in a valid store
-slot_in_lem : (store id : List ℕ) → Open store → length id ≡ 8 → (c : ℕ) → find store (number id) ≡ some c → (a : Answer ℕ) → held_at store c ≡ a → asked store id ≡ a
+slot_in_lem : (store id : List ℕ) → Open store → length id ≡ 8 → (c : ℕ) → find store (number id) ≡ Some c → (a : Answer ℕ) → held_at store c ≡ a → asked store id ≡ a
 slot_in_lem store id o l c f a h = sym (asked_at store id (eqb-true _ _ o.size) l o.good c f) ∙ h
 
 unknown : EachReached (unlisted empty (eight 0x02) 7)
@@ -74,7 +73,7 @@ unfolding held_at withdrawn_in chained image_put items_of items_put run_put digi
 place = slot_in_lem chained (eight 0x02) chained_open refl 1 refl (gives 1) refl
 
 fallen : slots_from (falls_with chained 220 1) 0 slot_count ≡ 1 ∷ 2 ∷ 4 ∷ 5 ∷ 6 ∷ 7 ∷ 8 ∷ 9 ∷ 10 ∷ []
-unfolding chained image_put items_of items_put run_put digits_put with_digits octets find lowest_from state_at id_at issuer_at field digits_at number fields_of region_of permissions_of scope_of subject_at issuer_in also_at withdrawn_in walk_number walk run first_of some_of each_of inside_of falls_with slots_from
+unfolding chained image_put items_of items_put run_put digits_put with_digits octets find lowest_from state_at id_at issuer_at field digits_at number fields_of region_of permissions_of scope_of subject_at issuer_in also_at withdrawn_in walk_number walk run first_of inside_of falls_with slots_from
 fallen = refl
 
 filled : filled_at chained 1 ≡ true

@@ -3,7 +3,7 @@ use Prim.Native.Nat.{ℕ, zero, suc, ◌<◌}
 use mathlib.Core.Path.{◌≡◌, refl, sym, ap, ◌∙◌}
 use mathlib.Core.Bool.{true, not}
 use mathlib.Core.Logic.{◌≢◌}
-use mathlib.Core.Option.{Option, none, some}
+use Rattle.std.specs.Prelude.{Option, None, Some}
 use mathlib.Core.List.{List, [], ◌∷◌, ◌++◌}
 use native.Mathlib.Omega.{arith}
 use borrow.Author.Tests.{eq-eqb, eqb-true}
@@ -103,16 +103,16 @@ module _ (l : List ℕ) (id : ℕ) (h : Image l id) where
   pub lone_open : Open (lone l)
   lone_open = record { size = eq-eqb (length (lone l)) store_length valid.size; good = (laws.valid_exactly (lone l)).1 valid }
 
-  pub lone_found : find (lone l) id ≡ some 0
+  pub lone_found : find (lone l) id ≡ Some 0
   lone_found = ap (find (lone l)) (sym here_id) ∙ find_only (lone l) distinct 0 (omega arith) here_filled
 
-  pub lone_none : (x : ℕ) → id ≢ x → find (lone l) x ≡ none
+  pub lone_none : (x : ℕ) → id ≢ x → find (lone l) x ≡ None
   lone_none x n = by (find (lone l) x) refl
     where
-      at : (i : ℕ) → find (lone l) x ≡ some i → ⊥
+      at : (i : ℕ) → find (lone l) x ≡ Some i → ⊥
       at zero e = n (sym here_id ∙ (find_finds (lone l) x 0 e).2)
       at (suc j) e = let f = find_finds (lone l) x (suc j) e in there j f.0 f.1
 
-      by : (o : Option ℕ) → find (lone l) x ≡ o → find (lone l) x ≡ none
-      by none e = e
-      by (some i) e = absurd (at i e)
+      by : (o : Option ℕ) → find (lone l) x ≡ o → find (lone l) x ≡ None
+      by None e = e
+      by (Some i) e = absurd (at i e)

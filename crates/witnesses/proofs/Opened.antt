@@ -28,7 +28,7 @@ pub record Open (store : List ℕ) : Type 0 where
   pub good : valid_store store ≡ true
 
 abbrev pub Allowed : Situation → Type 0
-Allowed x = (in_range x.latitude x.longitude ≡ true) × (leb x.age 600000000 ≡ true)
+Allowed x = (in_range x.position.latitude x.position.longitude ≡ true) × (leb x.age 600000000 ≡ true)
 
 -- the tests from the reading on
 abbrev pub by_signer : List ℕ → List ℕ → Situation → Message → Steps Passed

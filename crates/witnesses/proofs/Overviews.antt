@@ -8,7 +8,6 @@ use lib.Dec.{lit≤}
 use lib.ListN.{replicate}
 use Rattle.order.specs.Steps.{run, first_of}
 use Rattle.octets.specs.Kinds.{TICKET}
-use Rattle.geo.specs.Tests.{some_of, each_of}
 use Rattle.geo.specs.Area.{inside_of}
 use Rattle.bitfields.specs.Field.{number, digits_at, field, octets, with_digits}
 use Rattle.bitfields.specs.Runs.{fields_of}
@@ -131,11 +130,11 @@ unfolding standing_slots slots_from stands empty state_at field digits_at number
 none_there = refl
 
 standing_there : standing_slots chained 220 ≡ 0 ∷ 1 ∷ 2 ∷ 4 ∷ 5 ∷ 6 ∷ 7 ∷ 8 ∷ 9 ∷ 10 ∷ []
-unfolding chained image_put items_of items_put run_put digits_put with_digits octets find lowest_from state_at id_at issuer_at field digits_at number fields_of region_of permissions_of scope_of subject_at issuer_in withdrawn_in walk_number walk run first_of some_of each_of inside_of stands slots_from standing_slots
+unfolding chained image_put items_of items_put run_put digits_put with_digits octets find lowest_from state_at id_at issuer_at field digits_at number fields_of region_of permissions_of scope_of subject_at issuer_in withdrawn_in walk_number walk run first_of inside_of stands slots_from standing_slots
 standing_there = refl
 
 later_there : standing_slots chained 300 ≡ 0 ∷ 1 ∷ 5 ∷ 6 ∷ 7 ∷ 8 ∷ 9 ∷ 10 ∷ []
-unfolding chained image_put items_of items_put run_put digits_put with_digits octets find lowest_from state_at id_at issuer_at field digits_at number fields_of region_of permissions_of scope_of subject_at issuer_in withdrawn_in walk_number walk run first_of some_of each_of inside_of stands slots_from standing_slots
+unfolding chained image_put items_of items_put run_put digits_put with_digits octets find lowest_from state_at id_at issuer_at field digits_at number fields_of region_of permissions_of scope_of subject_at issuer_in withdrawn_in walk_number walk run first_of inside_of stands slots_from standing_slots
 later_there = refl
 
 pub looking_reached : AllReached looking

@@ -7,7 +7,6 @@ use Rattle.order.specs.Steps.{run, first_of}
 use Rattle.octets.specs.Numbers.{big_endian_on, leading_ones, octet_at, unsigned_at, intx_at}
 use Rattle.octets.specs.Elements.{exactly_at}
 use Rattle.octets.specs.Vectors.{span_at, run_at, part}
-use Rattle.geo.specs.Tests.{some_of, each_of}
 use Rattle.geo.specs.Area.{inside_of, in_region}
 use Rattle.bitfields.specs.Field.{number, digits_at, field, octets, with_digits}
 use Rattle.bitfields.specs.Runs.{fields_of}
@@ -51,40 +50,40 @@ pub on_chains : (P : List ℕ → Type 0) → P chained → P chains
 on_chains P p = subst P (sym chains_are) p
 
 withdrawn : EachReached (unjudged chained (message (named 0x04) 220000000 36) (at 220000000) 8)
-unfolding message big_endian_octets intx_octets run whole_message headers_at headers_in signer_at signer_info_at named_at fields_in generation_at deviation_at expiration_at location_at digests_at aid_at payload_at trailer_at trailer_in signature_at point_at span_at run_at intx_at octet_at unsigned_at exactly_at big_endian_on leading_ones in_time allowed_age chained image_put items_of items_put run_put digits_put with_digits octets find lowest_from state_at id_at field digits_at number record_of fields_of region_of permissions_of scope_of subject_of issuer_at subject_at issuer_in withdrawn_in walk first_of some_of each_of inside_of in_region position_of
+unfolding message big_endian_octets intx_octets run whole_message headers_at headers_in signer_at signer_info_at named_at fields_in generation_at deviation_at expiration_at location_at digests_at aid_at payload_at trailer_at trailer_in signature_at point_at span_at run_at intx_at octet_at unsigned_at exactly_at big_endian_on leading_ones in_time allowed_age chained image_put items_of items_put run_put digits_put with_digits octets find lowest_from state_at id_at field digits_at number record_of fields_of region_of permissions_of scope_of subject_of issuer_at subject_at issuer_in withdrawn_in walk first_of inside_of in_region position_of
 withdrawn = both chained (message (named 0x04) 220000000 36) (at 220000000) 8 (judged chained (message (named 0x04) 220000000 36) (at 220000000) chained_open (refl, refl))
 
 authority : EachReached (unjudged chained (message (named 0x02) 220000000 36) (at 220000000) 10)
-unfolding message big_endian_octets intx_octets run whole_message headers_at headers_in signer_at signer_info_at named_at fields_in generation_at deviation_at expiration_at location_at digests_at aid_at payload_at trailer_at trailer_in signature_at point_at span_at run_at intx_at octet_at unsigned_at exactly_at big_endian_on leading_ones in_time allowed_age chained image_put items_of items_put run_put digits_put with_digits octets find lowest_from state_at id_at field digits_at number record_of fields_of region_of permissions_of scope_of subject_of issuer_at subject_at issuer_in withdrawn_in walk first_of some_of each_of inside_of in_region position_of
+unfolding message big_endian_octets intx_octets run whole_message headers_at headers_in signer_at signer_info_at named_at fields_in generation_at deviation_at expiration_at location_at digests_at aid_at payload_at trailer_at trailer_in signature_at point_at span_at run_at intx_at octet_at unsigned_at exactly_at big_endian_on leading_ones in_time allowed_age chained image_put items_of items_put run_put digits_put with_digits octets find lowest_from state_at id_at field digits_at number record_of fields_of region_of permissions_of scope_of subject_of issuer_at subject_at issuer_in withdrawn_in walk first_of inside_of in_region position_of
 authority = both chained (message (named 0x02) 220000000 36) (at 220000000) 10 (judged chained (message (named 0x02) 220000000 36) (at 220000000) chained_open (refl, refl))
 
 other_aid : EachReached (unjudged chained (message (named 0x03) 220000000 37) (at 220000000) 11)
-unfolding message big_endian_octets intx_octets run whole_message headers_at headers_in signer_at signer_info_at named_at fields_in generation_at deviation_at expiration_at location_at digests_at aid_at payload_at trailer_at trailer_in signature_at point_at span_at run_at intx_at octet_at unsigned_at exactly_at big_endian_on leading_ones in_time allowed_age chained image_put items_of items_put run_put digits_put with_digits octets find lowest_from state_at id_at field digits_at number record_of fields_of region_of permissions_of scope_of subject_of issuer_at subject_at issuer_in withdrawn_in walk first_of some_of each_of inside_of in_region position_of
+unfolding message big_endian_octets intx_octets run whole_message headers_at headers_in signer_at signer_info_at named_at fields_in generation_at deviation_at expiration_at location_at digests_at aid_at payload_at trailer_at trailer_in signature_at point_at span_at run_at intx_at octet_at unsigned_at exactly_at big_endian_on leading_ones in_time allowed_age chained image_put items_of items_put run_put digits_put with_digits octets find lowest_from state_at id_at field digits_at number record_of fields_of region_of permissions_of scope_of subject_of issuer_at subject_at issuer_in withdrawn_in walk first_of inside_of in_region position_of
 other_aid = both chained (message (named 0x03) 220000000 37) (at 220000000) 11 (judged chained (message (named 0x03) 220000000 37) (at 220000000) chained_open (refl, refl))
 
 over : EachReached (unjudged chained (message (named 0x03) 300000000 36) (at 300000000) 12)
-unfolding message big_endian_octets intx_octets run whole_message headers_at headers_in signer_at signer_info_at named_at fields_in generation_at deviation_at expiration_at location_at digests_at aid_at payload_at trailer_at trailer_in signature_at point_at span_at run_at intx_at octet_at unsigned_at exactly_at big_endian_on leading_ones in_time allowed_age chained image_put items_of items_put run_put digits_put with_digits octets find lowest_from state_at id_at field digits_at number record_of fields_of region_of permissions_of scope_of subject_of issuer_at subject_at issuer_in withdrawn_in walk first_of some_of each_of inside_of in_region position_of
+unfolding message big_endian_octets intx_octets run whole_message headers_at headers_in signer_at signer_info_at named_at fields_in generation_at deviation_at expiration_at location_at digests_at aid_at payload_at trailer_at trailer_in signature_at point_at span_at run_at intx_at octet_at unsigned_at exactly_at big_endian_on leading_ones in_time allowed_age chained image_put items_of items_put run_put digits_put with_digits octets find lowest_from state_at id_at field digits_at number record_of fields_of region_of permissions_of scope_of subject_of issuer_at subject_at issuer_in withdrawn_in walk first_of inside_of in_region position_of
 over = both chained (message (named 0x03) 300000000 36) (at 300000000) 12 (judged chained (message (named 0x03) 300000000 36) (at 300000000) chained_open (refl, refl))
 
 outside : EachReached (unjudged chained (message (named 0x05) 220000000 36) (at 220000000) 13)
-unfolding message big_endian_octets intx_octets run whole_message headers_at headers_in signer_at signer_info_at named_at fields_in generation_at deviation_at expiration_at location_at digests_at aid_at payload_at trailer_at trailer_in signature_at point_at span_at run_at intx_at octet_at unsigned_at exactly_at big_endian_on leading_ones in_time allowed_age chained image_put items_of items_put run_put digits_put with_digits octets find lowest_from state_at id_at field digits_at number record_of fields_of region_of permissions_of scope_of subject_of issuer_at subject_at issuer_in withdrawn_in walk first_of some_of each_of inside_of in_region position_of
+unfolding message big_endian_octets intx_octets run whole_message headers_at headers_in signer_at signer_info_at named_at fields_in generation_at deviation_at expiration_at location_at digests_at aid_at payload_at trailer_at trailer_in signature_at point_at span_at run_at intx_at octet_at unsigned_at exactly_at big_endian_on leading_ones in_time allowed_age chained image_put items_of items_put run_put digits_put with_digits octets find lowest_from state_at id_at field digits_at number record_of fields_of region_of permissions_of scope_of subject_of issuer_at subject_at issuer_in withdrawn_in walk first_of inside_of in_region position_of
 outside = both chained (message (named 0x05) 220000000 36) (at 220000000) 13 (judged chained (message (named 0x05) 220000000 36) (at 220000000) chained_open (refl, refl))
 
 ninth : EachReached (unjudged chained (message (named 0x0C) 220000000 36) (at 220000000) 18)
-unfolding message big_endian_octets intx_octets run whole_message headers_at headers_in signer_at signer_info_at named_at fields_in generation_at deviation_at expiration_at location_at digests_at aid_at payload_at trailer_at trailer_in signature_at point_at span_at run_at intx_at octet_at unsigned_at exactly_at big_endian_on leading_ones in_time allowed_age chained image_put items_of items_put run_put digits_put with_digits octets find lowest_from state_at id_at field digits_at number record_of fields_of region_of permissions_of scope_of subject_of issuer_at subject_at issuer_in withdrawn_in walk first_of some_of each_of inside_of in_region position_of
+unfolding message big_endian_octets intx_octets run whole_message headers_at headers_in signer_at signer_info_at named_at fields_in generation_at deviation_at expiration_at location_at digests_at aid_at payload_at trailer_at trailer_in signature_at point_at span_at run_at intx_at octet_at unsigned_at exactly_at big_endian_on leading_ones in_time allowed_age chained image_put items_of items_put run_put digits_put with_digits octets find lowest_from state_at id_at field digits_at number record_of fields_of region_of permissions_of scope_of subject_of issuer_at subject_at issuer_in withdrawn_in walk first_of inside_of in_region position_of
 ninth = both chained (message (named 0x0C) 220000000 36) (at 220000000) 18 (judged chained (message (named 0x0C) 220000000 36) (at 220000000) chained_open (refl, refl))
 
 accepted : decision chained last (at 300000000) 1 0 ≡ record { number = 0; payload = part 25 2; signer = eight 0x03; permission = 36; generation = 299000000 }
-unfolding message big_endian_octets intx_octets run whole_message headers_at headers_in signer_at signer_info_at named_at fields_in generation_at deviation_at expiration_at location_at digests_at aid_at payload_at trailer_at trailer_in signature_at point_at span_at run_at intx_at octet_at unsigned_at exactly_at big_endian_on leading_ones in_time allowed_age chained image_put items_of items_put run_put digits_put with_digits octets find lowest_from state_at id_at field digits_at number record_of fields_of region_of permissions_of scope_of subject_of issuer_at subject_at issuer_in withdrawn_in walk first_of some_of each_of inside_of in_region position_of
+unfolding message big_endian_octets intx_octets run whole_message headers_at headers_in signer_at signer_info_at named_at fields_in generation_at deviation_at expiration_at location_at digests_at aid_at payload_at trailer_at trailer_in signature_at point_at span_at run_at intx_at octet_at unsigned_at exactly_at big_endian_on leading_ones in_time allowed_age chained image_put items_of items_put run_put digits_put with_digits octets find lowest_from state_at id_at field digits_at number record_of fields_of region_of permissions_of scope_of subject_of issuer_at subject_at issuer_in withdrawn_in walk first_of inside_of in_region position_of
 accepted = decided chained last (at 300000000) (run (later chained last (at 300000000))) (judged chained last (at 300000000) chained_open (refl, refl)) 1 0
 
 unsigned : decision chained last (at 300000000) 0 1 ≡ undecided 15
-unfolding message big_endian_octets intx_octets run whole_message headers_at headers_in signer_at signer_info_at named_at fields_in generation_at deviation_at expiration_at location_at digests_at aid_at payload_at trailer_at trailer_in signature_at point_at span_at run_at intx_at octet_at unsigned_at exactly_at big_endian_on leading_ones in_time allowed_age chained image_put items_of items_put run_put digits_put with_digits octets find lowest_from state_at id_at field digits_at number record_of fields_of region_of permissions_of scope_of subject_of issuer_at subject_at issuer_in withdrawn_in walk first_of some_of each_of inside_of in_region position_of
+unfolding message big_endian_octets intx_octets run whole_message headers_at headers_in signer_at signer_info_at named_at fields_in generation_at deviation_at expiration_at location_at digests_at aid_at payload_at trailer_at trailer_in signature_at point_at span_at run_at intx_at octet_at unsigned_at exactly_at big_endian_on leading_ones in_time allowed_age chained image_put items_of items_put run_put digits_put with_digits octets find lowest_from state_at id_at field digits_at number record_of fields_of region_of permissions_of scope_of subject_of issuer_at subject_at issuer_in withdrawn_in walk first_of inside_of in_region position_of
 unsigned = decided chained last (at 300000000) (run (later chained last (at 300000000))) (judged chained last (at 300000000) chained_open (refl, refl)) 0 1
 
 asked : preparation chained last (at 300000000)
     ≡ record { number = 0; message = question (part 0 29) (record { form = 2; octets = replicate 32 0 }) (part 29 66); certificate = unasked }
-unfolding message big_endian_octets intx_octets run whole_message headers_at headers_in signer_at signer_info_at named_at fields_in generation_at deviation_at expiration_at location_at digests_at aid_at payload_at trailer_at trailer_in signature_at point_at span_at run_at intx_at octet_at unsigned_at exactly_at big_endian_on leading_ones in_time allowed_age chained image_put items_of items_put run_put digits_put with_digits octets find lowest_from state_at id_at field digits_at number record_of fields_of region_of permissions_of scope_of subject_of issuer_at subject_at issuer_in withdrawn_in walk first_of some_of each_of inside_of in_region position_of certificate_question
+unfolding message big_endian_octets intx_octets run whole_message headers_at headers_in signer_at signer_info_at named_at fields_in generation_at deviation_at expiration_at location_at digests_at aid_at payload_at trailer_at trailer_in signature_at point_at span_at run_at intx_at octet_at unsigned_at exactly_at big_endian_on leading_ones in_time allowed_age chained image_put items_of items_put run_put digits_put with_digits octets find lowest_from state_at id_at field digits_at number record_of fields_of region_of permissions_of scope_of subject_of issuer_at subject_at issuer_in withdrawn_in walk first_of inside_of in_region position_of certificate_question
 asked = prepared chained last (at 300000000) (run (later chained last (at 300000000))) (judged chained last (at 300000000) chained_open (refl, refl))
 
 pub walked_reached : AllReached walked

@@ -1,28 +1,23 @@
 -- For each number that an operation can answer an input that reaches it (01, "Order of checks"), with the whole answer, by the
 -- operation's own definition.
-use Rattle.std.specs.Prelude.{ℕ, ◌≡◌, true, false, List, [], ◌∷◌, ◌++◌, replicate, pos}
+use Rattle.std.specs.Prelude.{ℕ, ◌≡◌, List, [], ◌∷◌, ◌++◌, replicate, pos, Some, None}
 use Rattle.octets.specs.Refusals.{ACCEPTED, BAD_CALL, BAD_STORE, TOO_LONG, CUT, MALFORMED, UNSUPPORTED, UNKNOWN, WITHDRAWN, OTHER_CERTIFICATE, WRONG_KIND, NOT_PERMITTED, OUTSIDE_PERIOD, OUTSIDE_PLACE, OUT_OF_DATE, BAD_SIGNATURE, FULL, ALREADY_HELD, CHAIN_TOO_LONG}
 use Rattle.octets.specs.Kinds.{TICKET}
 use Rattle.octets.specs.Vectors.{part, nowhere}
 use Rattle.attributes.specs.Keys.{absent}
 use Rattle.attributes.specs.Permissions.{unused as no-permission}
-use Rattle.attributes.specs.Assurances.{unassured}
 use Rattle.certificate.specs.Certificates.{blank}
-use Rattle.certificate.specs.Operations.{reading_of, id_of}
+use Rattle.certificate.specs.Operations.{Reading, reading_of, Identified, id_of}
 use Rattle.certificate.specs.declared.certificates.Certificate.{Certificate}
-use Rattle.certificate.specs.declared.operations.Reading.{Reading}
-use Rattle.certificate.specs.declared.operations.Identified.{Identified}
 use Rattle.records.specs.Records.{image_of}
 use Rattle.store.specs.Slots.{HELD, GONE, with_slot}
 use Rattle.admission.specs.Order.{installed, admitted}
 use Rattle.slot_lists.specs.Listings.{Listing, refused_list, written}
 use Rattle.withdrawal.specs.Order.{after, page, withdrawal}
 use Rattle.overview.specs.Order.{unread as unstored, slot_reading, standing_listing}
-use Rattle.overview.specs.declared.operations.SlotReading.{SlotReading}
-use Rattle.verification.specs.Order.{situation, question, unasked, decision, undecided, preparation, unprepared}
+use Rattle.overview.specs.Order.{SlotReading}
+use Rattle.verification.specs.Order.{situation, question, unasked, Decision, decision, undecided, Prepared, preparation, unprepared}
 use Rattle.verification.specs.declared.judging.Situation.{Situation}
-use Rattle.verification.specs.declared.operations.Decision.{Decision}
-use Rattle.verification.specs.declared.operations.Prepared.{Prepared}
 use Rattle.witnesses.specs.Inputs.{anchor, anchor_id, pass, pass_id, everywhere, bay, stored as recorded, empty, marked, chains, taken, gone_issuer, ticket_issuer, other_issuer, short_issuer, bay_issuer, full, named, carrying, message, at}
 use Rattle.sample_stores.specs.Stores.{eight}
 
@@ -82,12 +77,12 @@ anchor_fields =
       attributes = record {
         key = record { form = 2; octets = part 8 32 };
         encryption = absent;
-        assurance = unassured;
-        permissions = record { given = true; count = 1; values = record { aid = 36; ssp = nowhere } ∷ replicate 15 no-permission };
+        assurance = None;
+        permissions = Some (record { count = 1; values = record { aid = 36; ssp = nowhere } ∷ replicate 15 no-permission });
       };
       restrictions = record {
-        period = record { given = true; form = 0; start = 0; end = 1000 };
-        area = record { given = false; region = everywhere };
+        period = Some (record { form = 0; start = 0; end = 1000 });
+        area = None;
       };
       signed = part 0 49;
       signature = record { form = 0; octets = part 49 66 };

@@ -2,12 +2,11 @@
 use mathlib.Core.Path.{◌≡◌, refl, sym, ap, subst, ◌∙◌}
 use mathlib.Core.Bool.{true, false}
 use mathlib.Core.List.{List, [], ◌∷◌}
-use mathlib.Core.Option.{some}
+use Rattle.std.specs.Prelude.{Some}
 use Prim.Native.Nat.{ℕ}
 use lib.Dec.{lit≤}
 use lib.ListN.{length, replicate}
 use Rattle.order.specs.Steps.{gives, run, first_of}
-use Rattle.geo.specs.Tests.{some_of, each_of}
 use Rattle.geo.specs.Area.{inside_of}
 use Rattle.bitfields.specs.Field.{number, octets, digits_at, with_digits, field}
 use Rattle.bitfields.specs.Runs.{fields_of}
@@ -42,7 +41,7 @@ good : valid_store written ≡ true
 unfolding written image_put items_of items_put run_put digits_put with_digits octets state_at id_at field digits_at number valid_store each_below slot_good good_slot good_record rectangle_good fresh differs
 good = refl
 
-found : find written (number (eight 0x02)) ≡ some 1
+found : find written (number (eight 0x02)) ≡ Some 1
 unfolding written image_put items_of items_put run_put digits_put with_digits octets find lowest_from state_at id_at field digits_at number
 found = refl
 
@@ -55,7 +54,7 @@ unfolding written image_put items_of items_put run_put digits_put with_digits oc
 still = refl
 
 slots : slots_from (falls_with written 220 1) 0 slot_count ≡ 1 ∷ 2 ∷ []
-unfolding written image_put items_of items_put run_put digits_put with_digits octets find lowest_from state_at id_at issuer_at field digits_at number fields_of region_of permissions_of scope_of subject_at issuer_in also_at withdrawn_in walk_number walk run first_of some_of each_of inside_of falls_with slots_from
+unfolding written image_put items_of items_put run_put digits_put with_digits octets find lowest_from state_at id_at issuer_at field digits_at number fields_of region_of permissions_of scope_of subject_at issuer_in also_at withdrawn_in walk_number walk run first_of inside_of falls_with slots_from
 slots = refl
 
 place : asked written (eight 0x02) ≡ gives 1
@@ -75,7 +74,7 @@ pub listed : page shown (eight 0x02) 220 (replicate slot_count 0) ≡ listings.w
 listed = subst (λ (s : List ℕ). page s (eight 0x02) 220 (replicate slot_count 0) ≡ listings.written (1 ∷ 2 ∷ []) (replicate slot_count 0) s) (sym shown_written) page_written
 
 standing_slots_lem : standing_slots written 220 ≡ 0 ∷ 1 ∷ 2 ∷ 4 ∷ 5 ∷ []
-unfolding written image_put items_of items_put run_put digits_put with_digits octets find lowest_from state_at id_at issuer_at field digits_at number fields_of region_of permissions_of scope_of subject_at issuer_in withdrawn_in walk_number walk run first_of some_of each_of inside_of stands slots_from standing_slots
+unfolding written image_put items_of items_put run_put digits_put with_digits octets find lowest_from state_at id_at issuer_at field digits_at number fields_of region_of permissions_of scope_of subject_at issuer_in withdrawn_in walk_number walk run first_of inside_of stands slots_from standing_slots
 standing_slots_lem = refl
 
 standing_written : standing_listing written 220 (replicate slot_count 0) ≡ listings.written (0 ∷ 1 ∷ 2 ∷ 4 ∷ 5 ∷ []) (replicate slot_count 0) written

@@ -7,12 +7,9 @@ use Rattle.answer_words.proofs.Joined.{decision_written}
 use borrow.Author.Rules.{rules}
 use Rattle.answer_words.proofs.write_decision.Goals as goal
 
-pub write_octets-requires : goal.write_octets-requires
-write_octets-requires c = let o : length c.args.d.signer ≡ 8 = search rules in omega arith
-
 pub returns : goal.returns
 unfolding with_decision
 returns c =
     let a = c.args in
     let o : length a.d.signer ≡ 8 = search (rules, c.well_formed.1.0) in
-    decision_written a.buffer.now _ a.d.signer _ c.write_words.ensures c.write_octets.ensures c.write_words-2.ensures refl o refl (omega arith)
+    rw (← c.from.ensures) (decision_written a.buffer.now _ a.d.signer _ c.write_words.ensures c.write_octets.ensures c.write_words-2.ensures refl o refl (omega arith))

@@ -6,11 +6,8 @@ use Rattle.answer_words.proofs.Joined.{question_written}
 use borrow.Author.Rules.{rules}
 use Rattle.answer_words.proofs.write_question.Goals as goal
 
-pub write_octets-requires : goal.write_octets-requires
-write_octets-requires c = let o : length c.args.q.key ≡ 32 = search rules in omega arith
-
 pub returns : goal.returns
 returns c =
     let a = c.args in
     let o : length a.q.key ≡ 32 = search rules in
-    question_written a.buffer.now a.at _ a.q.key c.write_words.ensures c.write_octets.ensures (omega arith)
+    rw (← c.from.ensures) (question_written a.buffer.now a.at _ a.q.key c.write_words.ensures c.write_octets.ensures (omega arith))

@@ -1,14 +1,14 @@
 -- `nattveldi_c::counted` meets its contract. Assumes nothing.
-use Prim.Native.Nat.{ℕ, ◌<◌}
+use Prim.Native.Nat.{ℕ, ◌≤◌, ◌<◌}
 use native.Mathlib.Omega.{arith}
-use mathlib.Core.Path.{◌≡◌, sym}
 use borrow.Author.Rules.{rules}
-use borrow.Author.Tests.{eq-eqb, ne_eqb}
+use borrow.Author.Tests.{ne_eqb}
 use lib.IntN.{pos, neg_ℤ, +ℤ_idl}
 use mir.Syntax.{w32}
-use mir.Val.{SFits, to_z}
+use mir.Val.{SFits}
 use mir.Facts.{to_z_pos, to_z-of_z}
-use Rattle.octets.proofs.Laws.{chosen, passed}
+use Rattle.octets.specs.Outcomes.{number_of}
+use Rattle.octets.proofs.Outcomes.{number_low, number_no_zero}
 use Rattle.octets.proofs.Signed.{mag_neg}
 use Rattle.nattveldi_c.specs.Calls.{count_of}
 use Rattle.nattveldi_c.proofs.counted.Goals as goal
@@ -17,22 +17,17 @@ use Rattle.nattveldi_c.proofs.counted.Goals as goal
 turned : (n : ℕ) → n < 256 → SFits w32 (neg_ℤ (pos n))
 turned n h = record { sfits = omega (arith, mag_neg n) }
 
-as_signed : (n : ℕ) → n < 256 → to_z w32 n ≡ pos n
-as_signed n h = to_z_pos w32 (omega arith)
-
-pub overflow_sub-result : goal.overflow_sub-result
-overflow_sub-result c =
-    let h : c.args.listed.number < 256 = search rules in
-    rw (as_signed _ h, +ℤ_idl) (turned _ h)
-
-pub returns-then-listed-ne-ACCEPTED : goal.returns-then-listed-ne-ACCEPTED
+pub returns-in-Ok : goal.returns-in-Ok
 unfolding count_of
-returns-then-listed-ne-ACCEPTED c =
-    let h : c.args.listed.number < 256 = search rules in
-    rw (as_signed _ h, +ℤ_idl, to_z-of_z (turned _ h)) (sym (passed (ne_eqb _ _ c.if-listed-ne-ACCEPTED.true) _ _))
+returns-in-Ok c =
+    let few : c.in-Ok.n ≤ 64 = rw c.in-Ok.is at c.requires in
+    let h : c.in-Ok.n < 2147483648 = omega arith in
+    rw (c.in-Ok.is, to_z_pos w32 h)
 
-pub returns : goal.returns
+pub returns-in-Err : goal.returns-in-Err
 unfolding count_of
-returns c =
-    let h : c.args.listed.n < 2147483648 = omega arith in
-    rw (to_z_pos w32 h) (sym (chosen (eq-eqb _ _ c.if-listed-ne-ACCEPTED.false) _ _))
+returns-in-Err c =
+    let e = c.in-Err.refusal in
+    let f : SFits w32 c.from.result = search rules in
+    let h : number_of e < 256 = omega (arith, number_low e) in
+    rw (to_z-of_z f, c.from.ensures, c.number.ensures, +ℤ_idl (neg_ℤ (pos (number_of e))), to_z-of_z (turned _ h), c.in-Err.is, ne_eqb _ 0 (number_no_zero e))

@@ -12,6 +12,7 @@ use Rattle.store.specs.Slots.{slot_count}
 use Rattle.slot_lists.specs.Listings.{Listing}
 use Rattle.withdrawal.specs.Order.{page}
 use Rattle.page_text.proofs.Pages.{page_slots}
+use Rattle.nattveldi_c.proofs.Lists.{same_n, same_answer}
 use Rattle.nattveldi_c.specs.Calls.{list_answer, list_call}
 use Rattle.nattveldi_c.proofs.nattveldi_list.Goals as goal
 
@@ -27,9 +28,9 @@ abbrev left : List ℕ → List ℕ → ℤ → ℤ × List ℕ × List ℕ
 left list store z = (z, list, store)
 
 pub counted-requires : goal.counted-requires
-counted-requires c = few _ _ _ _ _ c.list-listed.ensures
+counted-requires c = rw (← same_n c.list.new.lent c.args.store.now c.list.result) (few _ _ _ _ _ c.list.ensures)
 
 pub returns : goal.returns
 returns c =
     let h : SFits w32 c.counted.result = search rules in
-    rw (to_z-of_z h) (ap (left _ _) c.counted.ensures ∙ answered _ _ _ _ _ c.list-listed.ensures)
+    rw (to_z-of_z h) (ap (left _ _) c.counted.ensures ∙ same_answer _ _ c.list.result ∙ answered _ _ _ _ _ c.list.ensures)

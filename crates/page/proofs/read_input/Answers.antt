@@ -7,6 +7,7 @@ use Rattle.page.proofs.read_input.Goals as goal
 -- what this read gave stands behind what the reads before it gave
 pub loop-n-preserved : goal.loop-n-preserved
 loop-n-preserved g c =
-    let behind = read_behind c.loop-n.n c.in-Octets.k c.loop-n.buffer c.read_some.new.buffer _ c.loop-n.invariant.inside c.in-Octets.ensures.inside in
-    let both = Consumes-trans _ _ _ _ _ c.loop-n.invariant.octets c.in-Octets.ensures.octets in
+    let read = c.read.ensures.bytes in
+    let behind = read_behind c.loop-n.n c.in_ok-k.k c.loop-n.buffer c.read.new.buf _ c.loop-n.invariant.inside (search rules) in
+    let both = Consumes-trans _ _ _ _ _ c.loop-n.invariant.octets (search rules) in
     record { inside = search rules; octets = subst (Consumes _ _) (sym behind) both }

@@ -1,41 +1,53 @@
 -- The invariant is `Reading`; what can be read has room and is not refused. Assumes nothing.
-use Rattle.attributes.specs.Permissions.{unused, permission_of, permission_at}
-use Rattle.attributes.specs.Outlines.{placed}
-use Rattle.attributes.specs.declared.permissions.Permission.{Permission}
+use Prim.Native.Nat.{ℕ, ◌≤◌}
+use mathlib.Core.List.{List, []}
+use mathlib.Core.Path.{◌≡◌, refl, sym, ◌∙◌, ap}
+use native.Mathlib.Omega.{arith}
+use native.Mathlib.Decide.{dec_le}
+use native.Mathlib.Nat.{lt_of_not-le}
+use lib.ListN.{length}
+use borrow.Author.Rules.{rules}
+use Rattle.std.specs.Prelude.{Result, Ok, Err, IsOk}
+use Rattle.octets.specs.Outcomes.{read_of}
+use Rattle.octets.specs.Reading.{Out, refused, value_or}
+use Rattle.octets.specs.Numbers.{intx_at}
+use Rattle.octets.specs.declared.refusals.Refusal.{Refusal}
 use Rattle.octets.proofs.Laws.{was, clash}
 use Rattle.octets.proofs.Turns.{begin, again, stopped, done, fits, counted, filled}
-use Rattle.octets.specs.Numbers.{intx_at}
-use Rattle.octets.specs.Reading.{Out, value_or}
-use mathlib.Core.List.{List, []}
-use mathlib.Core.Path.{sym, ◌∙◌, ap}
-use native.Mathlib.Omega.{arith}
+use Rattle.attributes.specs.Permissions.{unused, permission_at, listing}
+use Rattle.attributes.specs.declared.permissions.Permission.{Permission}
 use Rattle.attributes.proofs.lists.permissions_in.Goals as goal
 
-pub loop-at-init : goal.loop-at-init
-loop-at-init c = rw c.nowhere.ensures (begin (permission_at _) intx_at 16 unused _ _)
+-- what is never refused was read
+was_read : (r : Result (Permission × ℕ) Refusal) → ((n : ℕ) → read_of r ≡ refused n → ⊥) → IsOk r
+was_read (Ok p) h = search rules
+was_read (Err e) h = absurd (h _ refl)
 
-pub bounds-values-count : goal.bounds-values-count
-bounds-values-count c = fits (permission_at _) intx_at c.loop-at.invariant c.requires.2 c.loop-at-test.true
+pub loop-count-init : goal.loop-count-init
+loop-count-init c = rw c.nowhere.ensures (begin (permission_at _) intx_at 16 unused _ _)
 
-pub overflow_add-count : goal.overflow_add-count
-overflow_add-count c = omega (arith, c.loop-at.invariant.room)
+pub returns-then-s-at : goal.returns-then-s-at
+returns-then-s-at c =
+    let i = c.loop-count.invariant in
+    sym (ap (λ (o : Out (List Permission)). listing (value_or [] o)) (done (permission_at _) intx_at i c.if-s-at.true) ∙ rw (filled (permission_at _) intx_at i, counted (permission_at _) intx_at i))
 
-pub loop-at-smaller : goal.loop-at-smaller
-loop-at-smaller c = omega (arith, c.loop-at.invariant.room)
+pub unwrap-next-requires : goal.unwrap-next-requires
+unwrap-next-requires c =
+    let i = c.loop-count.invariant in
+    was_read c.permission_at.result (λ n e. clash (sym (stopped (permission_at _) intx_at i n c.if-s-at.false (omega arith) (sym c.permission_at.ensures ∙ e)) ∙ c.requires.2))
 
-pub loop-at-preserved : goal.loop-at-preserved
-loop-at-preserved c =
-    let h = bounds-values-count c in
-    again (permission_at _) intx_at c.loop-at.invariant _ _ c.loop-at-test.true (λ e. omega (arith, h))
-    (was permission_of c.permission_at.ensures c.in-Value.is)
+pub loop-count-preserved : goal.loop-count-preserved
+loop-count-preserved c = again (permission_at _) intx_at c.loop-count.invariant _ _ c.if-s-at.false (omega arith) (was read_of c.permission_at.ensures c.unwrap-next.ensures)
 
-pub returns-after-loop-at : goal.returns-after-loop-at
-returns-after-loop-at c =
-    let i = c.loop-at.invariant in
-    sym (ap (λ (o : Out (List Permission)). placed c.args.given (value_or [] o)) (done (permission_at _) intx_at i c.loop-at-test.false) ∙ rw (filled (permission_at _) intx_at i, counted (permission_at _) intx_at i))
-
-pub returns-in-Refused : goal.returns-in-Refused
-returns-in-Refused c =
-    let i = c.loop-at.invariant in
-    let h = fits (permission_at _) intx_at i c.requires.2 c.loop-at-test.true in
-    clash (sym (stopped (permission_at _) intx_at i _ c.loop-at-test.true (λ e. omega (arith, h)) (was permission_of c.permission_at.ensures c.in-Refused.is)) ∙ c.requires.2)
+-- where all places are filled, nothing is left to read
+pub returns : goal.returns
+returns c =
+    let i = c.loop-count.invariant in
+    let whole : c.loop-count.count ≡ 16 = omega arith in
+    let ended : length c.args.s.now ≤ c.loop-count.at =
+    elim (dec_le (length c.args.s.now) c.loop-count.at) [
+      | yes h ↦ h
+      | no h ↦ let k = fits (permission_at _) intx_at i c.requires.2 (lt_of_not-le h) in absurd (omega (arith, k))
+    ] in
+    ap (λ (n : ℕ). record { count = n; values = c.loop-count.values }) (sym whole)
+    ∙ sym (ap (λ (o : Out (List Permission)). listing (value_or [] o)) (done (permission_at _) intx_at i ended) ∙ rw (filled (permission_at _) intx_at i, counted (permission_at _) intx_at i))

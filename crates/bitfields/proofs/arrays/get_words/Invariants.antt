@@ -1,13 +1,7 @@
 -- `bitfields::arrays::get_words` meets its contract. The loop's invariant: the first i places hold the first i fields. Assumes nothing.
-use Prim.Native.Nat.{◌≤◌, ◌-◌, ◌+◌, ◌*◌}
-use mathlib.Core.Path.{◌≡◌}
-use lib.ListN.{length, take}
+use Rattle.std.proofs.Common.{◌≡◌, length, take}
 use Rattle.bitfields.specs.Runs.{fields_of}
 use Rattle.bitfields.proofs.arrays.get_words.Given as goal
 
 abbrev pub invariant-loop-i : goal.invariant-loop-i
-invariant-loop-i l =
-    (l.i ≤ length l.initial.out) × (l.at ≡ l.bit + l.width * l.i) × (length l.out ≡ length l.initial.out) × (take l.i l.out ≡ fields_of l.s l.bit l.width l.i)
-
-abbrev pub decreases-loop-i : goal.decreases-loop-i
-decreases-loop-i l = length l.initial.out - l.i
+invariant-loop-i g l = (length l.word-items ≡ g.row.N) × (take l.i l.word-items ≡ fields_of l.s l.bit l.width l.i)

@@ -2,16 +2,10 @@
 use Prim.Native.Nat.{ℕ, ◌-◌, ◌+◌, ◌*◌}
 use mathlib.Core.Path.{ap, ◌∙◌}
 use native.Mathlib.Omega.{arith}
-use lib.Pow.{pow_mono}
 use Rattle.bitfields.specs.Field.{digits_at}
 use Rattle.bitfields.proofs.Window.{word_field}
-use Rattle.bitfields.proofs.Word.{one_shl, shr_mask}
+use Rattle.bitfields.proofs.Word.{shr_mask}
 use Rattle.bitfields.proofs.reading.get_in.Goals as goal
-
-pub overflow_sub-result : goal.overflow_sub-result
-overflow_sub-result c =
-    let w : ℕ = c.args.width in
-    omega (arith, one_shl w (omega arith), pow_mono {i = 1} {j = w} (omega arith))
 
 pub returns : goal.returns
 returns c =

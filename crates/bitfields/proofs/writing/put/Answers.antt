@@ -7,7 +7,7 @@ use lib.ListN.{take, drop}
 use lib.Bits.{bit_and}
 use Rattle.bitfields.specs.Field.{octets, with_digits}
 use Rattle.bitfields.proofs.Law.{with_field_scatter}
-use Rattle.bitfields.proofs.Word.{one_shl_pos, word_with, word_fits}
+use Rattle.bitfields.proofs.Word.{word_with, word_fits}
 use Rattle.bitfields.proofs.writing.put.Goals as goal
 use Rattle.bitfields.proofs.writing.put.Goals.{After-gather-acc, Start}
 
@@ -31,10 +31,6 @@ new_lt : (c : After-gather-acc) →
 new_lt c =
     let a = c.args in
     word_fits c.gather-acc.result (shift c.before.before) a.width a.value (acc_lt c) (top_lt c.before.before) (omega arith)
-
-pub overflow_sub-low : goal.overflow_sub-low
-unfolding shift
-overflow_sub-low c = one_shl_pos (shift (goal.at.overflow_sub-low c).Start) (omega (arith, top_lt (goal.at.overflow_sub-low c).Start))
 
 pub overflow_add-low : goal.overflow_add-low
 unfolding shift

@@ -1,4 +1,3 @@
--- `certificate::certificates::certificate_of` meets its contract. Assumes nothing.
 use Rattle.certificate.proofs.Filled.{stands}
 use Rattle.certificate.proofs.certificates.certificate_of.Goals as goal
 
@@ -7,6 +6,3 @@ attributes_of-attributes-requires c = (stands _ _ c.requires).1
 
 pub restrictions_of-restrictions-requires : goal.restrictions_of-restrictions-requires
 restrictions_of-restrictions-requires c = (stands _ _ c.requires).2
-
-pub returns : goal.returns
-returns c = rw (c.attributes_of-attributes.ensures, c.restrictions_of-restrictions.ensures)

@@ -1,10 +1,6 @@
--- Everywhere, or by the rectangles. Assumes nothing.
-use Prim.Native.Nat.{ℕ}
-use mathlib.Core.Path.{sym, ap, ap₂, ◌∙◌}
-use lib.ListN.{take}
-use Rattle.geo.specs.Area.{inside_of, rectangles_of}
-use Rattle.geo.specs.declared.Region.{Region}
+use Rattle.std.proofs.Common.{◌∙◌, ap, sym, take, ℕ}
 use Rattle.geo.proofs.Regions.{inside_everywhere}
+use Rattle.geo.specs.Area.{inside_of, rectangles_of}
 use Rattle.records.specs.Records.{region_of}
 use Rattle.store.specs.Slots.{slot_of}
 use Rattle.chain.proofs.issuers.region_inside_at.Goals as goal
@@ -17,8 +13,3 @@ returns-then-region_count_at-eq0 c =
     let outer = region_of (slot_of a.store.now a.issuer) in
     sym (inside_everywhere inner)
     ∙ ap (λ (n : ℕ). inside_of inner (take n outer.rectangles)) (sym c.if-region_count_at-eq0.true ∙ c.region_count_at.ensures)
-
-pub returns : goal.returns
-returns c =
-    c.inside.ensures
-    ∙ ap₂ (λ (r q : Region). inside_of (rectangles_of r) (rectangles_of q)) c.region_at-inner.ensures c.region_at-outer.ensures

@@ -1,9 +1,9 @@
-use mathlib.Core.Path.{refl, ◌∙◌}
+use Rattle.std.proofs.Common.{◌∙◌, refl}
 use Rattle.chain.proofs.Own.{place_none, place_asked}
 use Rattle.chain.proofs.signers.place_of.Goals as goal
 
-pub returns-in-Anywhere : goal.returns-in-Anywhere
-returns-in-Anywhere c = place_none _ _ c.in-Anywhere.is
+pub returns-in-None : goal.returns-in-None
+returns-in-None c = place_none _ _ c.in-None.is
 
-pub returns-in-At : goal.returns-in-At
-returns-in-At c = c.place_in.ensures ∙ place_asked _ _ _ _ c.in-At.is refl
+pub returns-in-Some : goal.returns-in-Some
+returns-in-Some c = c.place_in.ensures ∙ place_asked _ _ _ _ c.in-Some.is refl

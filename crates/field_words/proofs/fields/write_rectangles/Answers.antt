@@ -1,8 +1,12 @@
--- `field_words::fields::write_rectangles` meets its contract: one writing after the other. Assumes nothing.
-use Rattle.field_words.proofs.Rectangles.{rectangles_written}
+-- `field_words::fields::write_rectangles` meets its contract. Assumes nothing.
+use mathlib.Core.Path.{◌≡◌, ◌∙◌}
+use lib.ListN.{length}
+use native.Mathlib.Omega.{arith}
+use borrow.Author.Rules.{rules}
+use Rattle.field_words.proofs.Rectangles.{rectangles_four}
 use Rattle.field_words.proofs.fields.write_rectangles.Goals as goal
 
 pub returns : goal.returns
 returns c =
-    rectangles_written _ _ _ c.edge_words-first.ensures c.write_words.ensures c.edge_words-second.ensures c.write_words-2.ensures
-    c.edge_words-third.ensures c.write_words-3.ensures c.edge_words-fourth.ensures c.write_words-4.ensures
+    let n : length c.args.rectangles ≡ 4 = search rules in
+    c.loop-i.invariant ∙ rectangles_four c.args.at c.args.rectangles c.loop-i.i c.args.buffer.now (omega arith)

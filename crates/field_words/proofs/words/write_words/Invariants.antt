@@ -1,13 +1,8 @@
--- `field_words::words::write_words` meets its contract. The invariant: the octets of the first words are copied. Assumes nothing.
-use Prim.Native.Nat.{◌*◌, ◌≤◌, ◌-◌}
-use Rattle.field_words.specs.Words.{words_octets}
-use lib.ListN.{length}
-use lib.Seq.{paste}
+-- `field_words::words::write_words` meets its contract. The invariant: the first words are written. Assumes nothing.
+use Rattle.field_words.specs.Words.{with_words}
+use lib.ListN.{take}
 use mathlib.Core.Path.{◌≡◌}
 use Rattle.field_words.proofs.words.write_words.Given as goal
 
 abbrev pub invariant-loop-i : goal.invariant-loop-i
-invariant-loop-i l = (l.i ≤ length l.words) × (length l.buffer ≡ length l.initial.buffer) × (l.buffer ≡ paste l.initial.buffer (4 * l.at) (words_octets l.words) (4 * l.i))
-
-abbrev pub decreases-loop-i : goal.decreases-loop-i
-decreases-loop-i l = length l.words - l.i
+invariant-loop-i l = l.buffer ≡ with_words l.at (take l.i l.words) l.initial.buffer

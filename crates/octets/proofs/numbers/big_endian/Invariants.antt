@@ -1,14 +1,7 @@
--- `octets::numbers::big_endian` meets its contract. The loop's invariant: what was read so far, followed by the rest, is the whole number.
--- Assumes nothing.
-use Prim.Native.Nat.{◌+◌, ◌-◌, ◌^◌, ◌≤◌, ◌<◌}
-use mathlib.Core.Path.{◌≡◌}
-use lib.ListN.{take, drop}
-use Rattle.octets.specs.Numbers.{big_endian_on}
+-- the value is that of the octets so far
+use Rattle.std.proofs.Common.{◌≡◌, ◌^◌, ◌<◌, take, drop}
+use Rattle.octets.specs.Numbers.{big_endian}
 use Rattle.octets.proofs.numbers.big_endian.Given as goal
 
-abbrev pub invariant-loop-i : goal.invariant-loop-i
-invariant-loop-i l =
-    (l.i ≤ l.n) × (l.v < 256 ^ l.i) × (big_endian_on l.v (take (l.n - l.i) (drop (l.at + l.i) l.s)) ≡ big_endian_on 0 (take l.n (drop l.at l.s)))
-
-abbrev pub decreases-loop-i : goal.decreases-loop-i
-decreases-loop-i l = l.n - l.i
+abbrev pub invariant-loop-octet : goal.invariant-loop-octet
+invariant-loop-octet l = (l.value < 256 ^ l.octet-index) × (l.value ≡ big_endian (take l.octet-index (take l.n (drop l.at l.s))))

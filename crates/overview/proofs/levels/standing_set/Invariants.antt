@@ -1,12 +1,8 @@
--- The invariant: the set has the slots from which a chain of at most n certificates reaches a root. Assumes nothing.
-use mathlib.Core.Path.{◌≡◌}
-use Prim.Native.Nat.{◌-◌, ◌≤◌}
+-- after so many rounds the set has the slots from which a chain of at most as many certificates reaches a root
+use Rattle.std.proofs.Common.{◌≡◌}
 use Rattle.slot_lists.specs.Computed.{bits_from}
 use Rattle.overview.specs.Computed.{reaches}
 use Rattle.overview.proofs.levels.standing_set.Given as goal
 
-abbrev pub invariant-loop-n : goal.invariant-loop-n
-invariant-loop-n l = (l.n ≤ 8) × (l.set ≡ bits_from (reaches l.store l.second l.n) 0 64)
-
-abbrev pub decreases-loop-n : goal.decreases-loop-n
-decreases-loop-n l = 8 - l.n
+abbrev pub invariant-loop : goal.invariant-loop
+invariant-loop l = l.set ≡ bits_from (reaches l.store l.second l.counter) 0 64

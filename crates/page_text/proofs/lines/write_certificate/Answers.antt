@@ -10,48 +10,6 @@ use Rattle.page_text.proofs.Printed.{decimal_two, kind_fits, name_fits, line_wri
 use borrow.Author.Rules.{rules}
 use Rattle.page_text.proofs.lines.write_certificate.Goals as goal
 
-pub write_octet-b-requires : goal.write_octet-b-requires
-write_octet-b-requires c =
-    let a = c.args in
-    omega (arith, decimal_two a.slot (omega arith))
-
-pub write_hex-c-requires : goal.write_hex-c-requires
-write_hex-c-requires c =
-    let a = c.args in
-    let i : length a.r.id ≡ ID.count = search (rules, c.well_formed.1.1.1.0) in
-    omega (arith, decimal_two a.slot (omega arith), hex_long a.r.id)
-
-pub write_octet-d-requires : goal.write_octet-d-requires
-write_octet-d-requires c =
-    let a = c.args in
-    let i : length a.r.id ≡ ID.count = search (rules, c.well_formed.1.1.1.0) in
-    omega (arith, decimal_two a.slot (omega arith), hex_long a.r.id)
-
-pub write_kind-e-requires : goal.write_kind-e-requires
-write_kind-e-requires c =
-    let a = c.args in
-    let i : length a.r.id ≡ ID.count = search (rules, c.well_formed.1.1.1.0) in
-    omega (arith, decimal_two a.slot (omega arith), hex_long a.r.id)
-
-pub write_octet-f-requires : goal.write_octet-f-requires
-write_octet-f-requires c =
-    let a = c.args in
-    let i : length a.r.id ≡ ID.count = search (rules, c.well_formed.1.1.1.0) in
-    omega (arith, decimal_two a.slot (omega arith), hex_long a.r.id, kind_fits a.r.scope.kind)
-
-pub write_name-g-requires : goal.write_name-g-requires
-write_name-g-requires c =
-    let a = c.args in
-    let i : length a.r.id ≡ ID.count = search (rules, c.well_formed.1.1.1.0) in
-    omega (arith, decimal_two a.slot (omega arith), hex_long a.r.id, kind_fits a.r.scope.kind)
-
-pub write_octet-requires : goal.write_octet-requires
-write_octet-requires c =
-    let a = c.args in
-    let i : length a.r.id ≡ ID.count = search (rules, c.well_formed.1.1.1.0) in
-    let n : length a.r.name.octets ≡ NAME.count = search (rules, c.well_formed.1.1.1.0) in
-    omega (arith, c.requires, c.write_decimal-a.ensures, decimal_two a.slot c.requires.0, hex_long a.r.id, kind_fits a.r.scope.kind, name_fits a.r.name n)
-
 pub returns : goal.returns
 unfolding line_of
 returns c =

@@ -7,12 +7,6 @@ use Rattle.text.proofs.Decimals.{decimal_ten}
 use Rattle.page_text.specs.Lines.{certificates_word, line_feed, count_of}
 use Rattle.page_text.proofs.lines.write_count.Goals as goal
 
-pub write_text-b-requires : goal.write_text-b-requires
-write_text-b-requires c = omega (arith, decimal_ten c.args.n (omega arith))
-
-pub write_octet-requires : goal.write_octet-requires
-write_octet-requires c = omega (arith, decimal_ten c.args.n (omega arith))
-
 pub returns : goal.returns
 unfolding count_of
 returns c =

@@ -8,15 +8,6 @@ use Rattle.text.proofs.Decimals.{decimal_ten}
 use Rattle.page_text.specs.Lines.{withdraw_word, at_word, line_feed, head_of}
 use Rattle.page_text.proofs.lines.write_head.Goals as goal
 
-pub write_text-c-requires : goal.write_text-c-requires
-write_text-c-requires c = omega (arith, hex_long c.args.id.now)
-
-pub write_decimal-d-requires : goal.write_decimal-d-requires
-write_decimal-d-requires c = omega (arith, hex_long c.args.id.now)
-
-pub write_octet-requires : goal.write_octet-requires
-write_octet-requires c = omega (arith, hex_long c.args.id.now, decimal_ten c.args.second (omega arith))
-
 pub returns : goal.returns
 unfolding head_of
 returns c =

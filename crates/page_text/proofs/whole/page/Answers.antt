@@ -18,16 +18,14 @@ returns-then-input-ne-INPUT_LENGTH c =
     let a = c.args in
     call_text a.input.now a.text.now (omega arith) (rw (other_length a.input.now (λ e. omega arith)) c.write_refusal.ensures)
 
-pub slice_bounds-write_page-end : goal.slice_bounds-write_page-end
-slice_bounds-write_page-end c = omega (arith, length-take store_length c.args.input.now)
-
 pub write_page-requires : goal.write_page-requires
 write_page-requires c =
     let input = c.args.input.now in
-    (omega (arith, length-take store_length input), omega (arith, length-take ID.count (drop store_length input), length-drop store_length input), omega arith)
+    (omega (arith, length-take ID.count (drop store_length input), length-drop store_length input), omega arith)
 
 pub returns : goal.returns
 returns c =
     let a = c.args in
+    let split = rw c.unwrap.ensures at c.split_first_chunk.ensures.cases in
     call_text a.input.now a.text.now (omega arith)
-    (rw (that_length a.input.now (omega arith)) (rw c.second_of-second.ensures at c.write_page.ensures))
+    (rw (that_length a.input.now (omega arith)) (rw (split.0, c.second_of-second.ensures) at c.write_page.ensures))

@@ -1,4 +1,4 @@
--- The loop looks upward: what is left to search holds the answer. Assumes nothing.
+-- What is left to search holds the answer. Assumes nothing.
 use mathlib.Core.Path.{refl, sym, ap, ◌∙◌}
 use mathlib.Core.Bool.{not}
 use native.Mathlib.Omega.{arith}
@@ -9,16 +9,17 @@ use Rattle.store.proofs.search.empty_slot.Goals as goal
 
 pub loop-i-init : goal.loop-i-init
 unfolding lowest_empty
-loop-i-init c = (omega arith, refl)
-
-pub filled-requires : goal.filled-requires
-filled-requires c = (omega arith, c.requires)
+loop-i-init c = refl
 
 pub returns-then-not-filled : goal.returns-then-not-filled
-returns-then-not-filled c = lowest_here (λ j. not (filled_at c.args.store.now j)) _ 64 (omega arith) (ap not (sym c.filled.ensures) ∙ c.if-not-filled.true-raw) ∙ c.loop-i.invariant.1
+returns-then-not-filled c =
+    let e = rw c.at-slot.ensures at c.filled.ensures in
+    rw c.at-slot.ensures (lowest_here (λ j. not (filled_at c.args.store.now j)) _ 64 (omega arith) (ap not (sym e ∙ c.if-not-filled.true)) ∙ c.loop-i.invariant)
 
 pub loop-i-preserved : goal.loop-i-preserved
-loop-i-preserved c = (omega arith, sym (lowest_more (λ j. not (filled_at c.args.store.now j)) c.loop-i.i 64 (omega arith) (ap not (sym c.filled.ensures) ∙ c.if-not-filled.false-raw)) ∙ c.loop-i.invariant.1)
+loop-i-preserved c =
+    let e = rw c.at-slot.ensures at c.filled.ensures in
+    sym (lowest_more (λ j. not (filled_at c.args.store.now j)) c.loop-i.i 64 (omega arith) (ap not (sym e ∙ c.if-not-filled.false))) ∙ c.loop-i.invariant
 
 pub returns : goal.returns
-returns c = sym (lowest_end (λ j. not (filled_at c.args.store.now j)) c.loop-i.i 64 (omega arith)) ∙ c.loop-i.invariant.1
+returns c = sym (lowest_end (λ j. not (filled_at c.args.store.now j)) c.loop-i.i 64 (omega arith)) ∙ c.loop-i.invariant

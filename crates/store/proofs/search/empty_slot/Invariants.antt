@@ -1,5 +1,5 @@
--- The loop looks upward: what is left to search holds the answer. Assumes nothing.
-use Prim.Native.Nat.{◌≤◌, ◌-◌}
+-- What is left to search holds the answer. Assumes nothing.
+use Prim.Native.Nat.{◌-◌}
 use mathlib.Core.Path.{◌≡◌}
 use mathlib.Core.Bool.{not}
 use Rattle.store.specs.Slots.{filled_at}
@@ -7,7 +7,4 @@ use Rattle.store.specs.Search.{lowest_from, lowest_empty}
 use Rattle.store.proofs.search.empty_slot.Given as goal
 
 abbrev pub invariant-loop-i : goal.invariant-loop-i
-invariant-loop-i l = (l.i ≤ 64) × (lowest_from (λ j. not (filled_at l.store j)) l.i (64 - l.i) ≡ lowest_empty l.store)
-
-abbrev pub decreases-loop-i : goal.decreases-loop-i
-decreases-loop-i l = 64 - l.i
+invariant-loop-i l = lowest_from (λ j. not (filled_at l.store j)) l.i (64 - l.i) ≡ lowest_empty l.store

@@ -1,17 +1,12 @@
 -- One slot a turn, and one mark. Assumes nothing.
-use Prim.Native.Nat.{◌-◌, ◌≤◌}
 use mathlib.Core.Path.{◌≡◌}
 use mathlib.Core.Bool.{true}
 use lib.ListN.{length}
-use Rattle.store.specs.Slots.{slot_count}
 use Rattle.validity.specs.Each.{each_below}
-use Rattle.validity.specs.Marks.{places}
 use Rattle.validity.specs.Valid.{fresh}
+use Rattle.validity.specs.Marks.{places}
 use Rattle.validity.proofs.Marks.{Marked}
 use Rattle.validity.proofs.distinct.distinct.Given as goal
 
 abbrev pub invariant-loop-i : goal.invariant-loop-i
-invariant-loop-i l = (l.i ≤ slot_count) × (length l.seen ≡ places) × (each_below l.i (fresh l.store) ≡ true) × Marked l.store l.seen l.i
-
-abbrev pub decreases-loop-i : goal.decreases-loop-i
-decreases-loop-i l = slot_count - l.i
+invariant-loop-i l = (length l.seen ≡ places) × (each_below l.i (fresh l.store) ≡ true) × Marked l.store l.seen l.i

@@ -2,6 +2,6 @@
 use Rattle.validity.specs.Masks.{mask_rows}
 use Rattle.validity.proofs.rooms.masks.Goals as goal
 
-pub returns : goal.returns
+pub invariant_of-result : goal.invariant_of-result
 unfolding mask_rows
-returns c = rw (c.put_row-4.ensures, c.put_row-3.ensures, c.put_row-2.ensures, c.put_row.ensures)
+invariant_of-result c = record { right = rw (c.put_row-4.ensures, c.put_row-3.ensures, c.put_row-2.ensures, c.put_row.ensures) }

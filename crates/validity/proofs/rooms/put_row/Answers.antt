@@ -1,36 +1,20 @@
--- One mask a turn, then the first. Assumes nothing.
-use Prim.Native.Nat.{ℕ, ◌+◌}
-use mathlib.Core.Path.{◌≡◌, refl, sym, ap, ◌∙◌}
-use mathlib.Core.List.{List}
+-- The row is filled, then its first mask is set. Assumes nothing.
+use mathlib.Core.Path.{◌≡◌, sym, ap, ap₂, ◌∙◌}
+use mathlib.Core.List.{List, ◌++◌, append_assoc}
+use Prim.Native.Nat.{ℕ, ◌+◌, ◌-◌}
 use native.Mathlib.Omega.{arith}
-use native.Mathlib.Numerals.{add-one}
-use borrow.Author.Rules.{rules}
-use lib.ListN.{set, replicate, length-set, get_or-replicate}
-use lib.Seq.{paste, paste-zero, paste-suc}
+use lib.ListN.{take, drop, set, replicate, length-drop}
+use lib.Seq.{length-take-le, drop-drop}
 use Rattle.validity.specs.Masks.{widest, with_row}
 use Rattle.validity.proofs.rooms.put_row.Goals as goal
-
-pub loop-i-init : goal.loop-i-init
-loop-i-init c = (search rules, refl, paste-zero c.args.t.now c.args.at (replicate widest 255))
-
-pub loop-i-preserved : goal.loop-i-preserved
-loop-i-preserved c =
-    let t = c.loop-i in
-    let a = c.args in (
-      search rules,
-      simp length-set t.invariant.1,
-      ap (λ (l : List ℕ). set l (a.at + t.i) 255) t.invariant.2
-          ∙ ap (set (paste a.t.now a.at (replicate widest 255) t.i) (a.at + t.i)) (sym (get_or-replicate widest t.i 255 0 (omega arith)))
-          ∙ paste-suc a.t.now a.at (replicate widest 255) t.i 0 (omega arith) (omega arith)
-          ∙ ap (paste a.t.now a.at (replicate widest 255)) (sym (add-one t.i)),
-    )
-
-pub shape_of-t : goal.shape_of-t
-shape_of-t c = simp length-set c.loop-i.invariant.1
 
 pub returns : goal.returns
 unfolding with_row
 returns c =
     let a = c.args in
-    let e : c.loop-i.i ≡ widest = omega arith in
-    ap (λ (l : List ℕ). set l a.at a.mask) (c.loop-i.invariant.2 ∙ ap (paste a.t.now a.at (replicate widest 255)) e)
+    let n : a.at + widest - a.at ≡ widest = omega arith in
+    let long = length-take-le (a.at + widest - a.at) (drop a.at a.t.now) (omega (arith, length-drop a.at a.t.now)) in
+    let row : c.fill.new.self ≡ replicate widest 255 = c.fill.ensures.after (λ y e. e) ∙ ap (λ (k : ℕ). replicate k 255) (long ∙ n) in
+    let rest = ap (λ (k : ℕ). drop k (drop a.at a.t.now)) n ∙ drop-drop widest a.at a.t.now in
+    ap₂ (λ (x y : List ℕ). set (take a.at a.t.now ++ (x ++ y)) a.at a.mask) row rest
+    ∙ ap (λ (l : List ℕ). set l a.at a.mask) (sym (append_assoc (take a.at a.t.now) (replicate widest 255) (drop (a.at + widest) a.t.now)))

@@ -4,7 +4,6 @@ use mathlib.Core.Path.{◌≡◌, sym, ap, ap₂, ◌∙◌}
 use mathlib.Core.Bool.{Bool, ◌&&◌}
 use mathlib.Core.List.{List}
 use native.Mathlib.Omega.{arith}
-use borrow.Author.Rules.{rules}
 use lib.Bits.{bit_and}
 use lib.Dec.{eqb}
 use lib.ListN.{length}
@@ -15,33 +14,32 @@ use Rattle.validity.specs.Masks.{widest, row_length, mask_rows, skip_of}
 use Rattle.validity.proofs.Unused.{masks_long, first_is, skip_is, skip_below, room_more}
 use Rattle.validity.proofs.rooms.room_zero.Goals as goal
 
-pub loop-i-init : goal.loop-i-init
-loop-i-init c =
+pub loop-word-init : goal.loop-word-init
+loop-word-init c =
     let a = c.args in
     let from : ℕ = a.first * 8 + skip_of a.row in
     let z : (a.at + 0) * 8 - from ≡ 0 = omega arith in
-    (search rules, search rules, sym (zero_none a.s.now from) ∙ ap (zero_bits a.s.now from) (sym z))
+    sym (zero_none a.s.now from) ∙ ap (zero_bits a.s.now from) (sym z)
 
-pub window-requires-in-loop-i : goal.window-requires-in-loop-i
-window-requires-in-loop-i c = omega (arith, ap length c.requires.0 ∙ masks_long)
+pub window-requires-in-loop-word : goal.window-requires-in-loop-word
+window-requires-in-loop-word c = omega (arith, ap length c.args.masks.now.right ∙ masks_long)
 
-pub loop-i-preserved : goal.loop-i-preserved
-loop-i-preserved c =
+pub loop-word-preserved : goal.loop-word-preserved
+loop-word-preserved c =
     let a = c.args in
-    let t = c.loop-i in
+    let i : ℕ = 8 * c.loop-word.word in
     let from : ℕ = a.first * 8 + skip_of a.row in
     let f : a.first ≡ from / 8 = first_is a.first a.row in
-    let b : ℕ = a.row * row_length + widest - (a.first - a.at) + t.i in (
-      search rules,
-      search rules,
-      ap (λ (z : Bool). z && eqb (bit_and c.window.result c.window-in-loop-i.result) 0) t.invariant.2
-          ∙ ap₂ (λ (x y : ℕ). zero_bits a.s.now from ((a.at + t.i) * 8 - from) && eqb (bit_and x y) 0) c.window.ensures (c.window-in-loop-i.ensures ∙ ap (λ (m : List ℕ). word_at m b) c.requires.0)
-          ∙ ap (λ (n : ℕ). zero_bits a.s.now from ((a.at + t.i) * 8 - from) && eqb (bit_and (word_at a.s.now (a.at + t.i)) (word_at mask_rows (a.row * row_length + widest - (n - a.at) + t.i))) 0) f
-          ∙ room_more a.s.now a.at a.row from t.i (λ j. omega (arith, c.type_inv.s j)) (omega arith) (skip_is a.first a.row) (omega arith) (skip_below a.first a.at a.row (omega arith)) (omega arith) (omega arith),
-    )
+    let b : ℕ = a.row * row_length + widest - (a.first - a.at) + i in
+    let next : i + 8 ≡ 8 * (c.loop-word.word + 1) = omega arith in
+    ap (λ (z : Bool). z && eqb (bit_and c.window.result c.window-in-loop-word.result) 0) c.loop-word.invariant
+    ∙ ap₂ (λ (x y : ℕ). zero_bits a.s.now from ((a.at + i) * 8 - from) && eqb (bit_and x y) 0) c.window.ensures (c.window-in-loop-word.ensures ∙ ap (λ (m : List ℕ). word_at m b) a.masks.now.right)
+    ∙ ap (λ (n : ℕ). zero_bits a.s.now from ((a.at + i) * 8 - from) && eqb (bit_and (word_at a.s.now (a.at + i)) (word_at mask_rows (a.row * row_length + widest - (n - a.at) + i))) 0) f
+    ∙ room_more a.s.now a.at a.row from i (λ j. omega (arith, c.type_inv.s j)) (omega arith) (skip_is a.first a.row) (omega arith) (skip_below a.first a.at a.row (omega arith)) (omega arith) (omega arith)
+    ∙ ap (λ (n : ℕ). zero_bits a.s.now from ((a.at + n) * 8 - from)) next
 
 pub returns : goal.returns
 returns c =
     let a = c.args in
-    let e : c.loop-i.i ≡ a.count = omega arith in
-    c.loop-i.invariant.2 ∙ ap (λ (n : ℕ). zero_bits a.s.now (a.first * 8 + skip_of a.row) ((a.at + n) * 8 - (a.first * 8 + skip_of a.row))) e
+    let e : 8 * c.loop-word.word ≡ a.count = omega arith in
+    c.loop-word.invariant ∙ ap (λ (n : ℕ). zero_bits a.s.now (a.first * 8 + skip_of a.row) ((a.at + n) * 8 - (a.first * 8 + skip_of a.row))) e

@@ -13,4 +13,4 @@ returns c =
     let y : ℕ = c.window-2.result in
     let z : ℕ = c.window-3.result in
     ap (λ (t : Bool). t && eqb x 0 && eqb y 0 && eqb z 0) c.octets_zero.ensures
-    ∙ empty_tests c.args.s.now x y z (λ i. omega (arith, c.type_inv.s i)) (omega arith) c.window.ensures c.window-2.ensures c.window-3.ensures
+    ∙ empty_tests c.args.s.now x y z (λ i. omega (arith, c.fits-s i)) (omega arith) c.window.ensures c.window-2.ensures c.window-3.ensures

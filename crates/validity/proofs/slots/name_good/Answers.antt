@@ -19,7 +19,7 @@ returns-then-n-le-NAME_ROOM c =
     let l : List ℕ = a.s.now in
     let f : (NAME.bit / 8 + a.n) * 8 + NAME.bit % 8 ≡ bit_at NAME a.n = omega arith in
     ap (λ (z : Bool). z && (eqb a.n NAME.count || ltb (get_or l (end_octet NAME) 0) (2 ^ (8 - NAME.bit % 8)))) (c.room_zero.ensures ∙ ap (λ (b : ℕ). zero_bits l b (end_octet NAME * 8 - b)) f)
-    ∙ room_tests NAME l a.n (λ j. omega (arith, c.type_inv.s j)) (omega arith) refl (λ h. omega arith) (omega arith)
+    ∙ room_tests NAME l a.n (λ j. omega (arith, c.fits-s j)) (omega arith) refl (λ h. omega arith) (omega arith)
     ∙ sym (ap (λ (t : Bool). t && unused_zero l NAME a.n) (le-leb a.n NAME.count (omega arith)))
 
 pub returns : goal.returns

@@ -10,7 +10,7 @@ use Rattle.validity.proofs.Parts.{permissions_first, permissions_tests, permissi
 use Rattle.validity.proofs.slots.permissions_good.Goals as goal
 
 pub room_zero-requires : goal.room_zero-requires
-room_zero-requires c = (c.requires.1, omega arith, omega arith, omega arith, omega arith, omega arith, omega arith, omega arith)
+room_zero-requires c = (omega arith, omega arith, omega arith, omega arith, omega arith, omega arith, omega arith)
 
 pub returns-then-n-le-PERMISSION_ROOM : goal.returns-then-n-le-PERMISSION_ROOM
 returns-then-n-le-PERMISSION_ROOM c =

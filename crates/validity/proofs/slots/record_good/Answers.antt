@@ -4,7 +4,7 @@ use mathlib.Core.Path.{◌≡◌, refl, sym, ap, ◌∙◌}
 use mathlib.Core.Bool.{◌&&◌}
 use mathlib.Core.List.{List}
 use native.Mathlib.Omega.{arith}
-use borrow.Author.Tests.{le-leb, lt-leb, not-true, not-false}
+use borrow.Author.Tests.{le-leb, lt-leb}
 use lib.Dec.{leb}
 use Rattle.records.specs.Layout.{NAME, RECTANGLES}
 use Rattle.validity.specs.Good.{unused_zero, good_name}
@@ -23,13 +23,13 @@ returns-then-n-gt-RECTANGLE_ROOM c =
     region_fails l (sym (region_tests l g.result g.ensures (lt-leb g.result RECTANGLES.count c.if-n-gt-RECTANGLE_ROOM.true) refl refl))
 
 pub returns-then-not-head_good : goal.returns-then-not-head_good
-returns-then-not-head_good c = record_tests c.args.s.now (sym c.head_good.ensures ∙ not-true c.head_good.result c.if-not-head_good.true-raw) refl refl refl
+returns-then-not-head_good c = record_tests c.args.s.now (sym c.head_good.ensures ∙ c.if-not-head_good.true) refl refl refl
 
 pub returns-then-not-name_good : goal.returns-then-not-name_good
 returns-then-not-name_good c =
     let h = c.head_good in
-    record_tests c.args.s.now (sym h.ensures ∙ not-false h.result c.if-not-head_good.false-raw)
-    (sym (name_is (goal.at.returns-then-not-name_good c).After-name_good) ∙ not-true c.name_good.result c.if-not-name_good.true-raw) refl refl
+    record_tests c.args.s.now (sym h.ensures ∙ c.if-not-head_good.false)
+    (sym (name_is (goal.at.returns-then-not-name_good c).After-name_good) ∙ c.if-not-name_good.true) refl refl
 
 pub returns-then-not-rectangles_good : goal.returns-then-not-rectangles_good
 returns-then-not-rectangles_good c =
@@ -37,7 +37,7 @@ returns-then-not-rectangles_good c =
     let l : List ℕ = c.args.s.now in
     let r = c.rectangles_good in
     region_fails l
-    (sym (region_tests l g.result g.ensures (le-leb g.result RECTANGLES.count (omega arith)) (sym r.ensures ∙ not-true r.result c.if-not-rectangles_good.true-raw) refl))
+    (sym (region_tests l g.result g.ensures (le-leb g.result RECTANGLES.count (omega arith)) (sym r.ensures ∙ c.if-not-rectangles_good.true) refl))
 
 pub returns-then-not-region_room : goal.returns-then-not-region_room
 returns-then-not-region_room c =
@@ -46,8 +46,8 @@ returns-then-not-region_room c =
     let r = c.rectangles_good in
     let m = c.region_room in
     region_fails l
-    (sym (region_tests l g.result g.ensures (le-leb g.result RECTANGLES.count (omega arith)) (sym r.ensures ∙ not-false r.result c.if-not-rectangles_good.false-raw)
-    (sym m.ensures ∙ not-true m.result c.if-not-region_room.true-raw)))
+    (sym (region_tests l g.result g.ensures (le-leb g.result RECTANGLES.count (omega arith)) (sym r.ensures ∙ c.if-not-rectangles_good.false)
+    (sym m.ensures ∙ c.if-not-region_room.true)))
 
 pub returns : goal.returns
 returns c =
@@ -57,8 +57,8 @@ returns c =
     let r = c.rectangles_good in
     let m = c.region_room in
     c.permissions_good.ensures
-    ∙ record_tests l (sym h.ensures ∙ not-false h.result c.if-not-head_good.false-raw)
-    (sym (name_is (goal.at.returns c).After-name_good) ∙ not-false c.name_good.result c.if-not-name_good.false-raw)
-    (sym (region_tests l g.result g.ensures (le-leb g.result RECTANGLES.count (omega arith)) (sym r.ensures ∙ not-false r.result c.if-not-rectangles_good.false-raw)
-    (sym m.ensures ∙ not-false m.result c.if-not-region_room.false-raw)))
+    ∙ record_tests l (sym h.ensures ∙ c.if-not-head_good.false)
+    (sym (name_is (goal.at.returns c).After-name_good) ∙ c.if-not-name_good.false)
+    (sym (region_tests l g.result g.ensures (le-leb g.result RECTANGLES.count (omega arith)) (sym r.ensures ∙ c.if-not-rectangles_good.false)
+    (sym m.ensures ∙ c.if-not-region_room.false)))
     refl

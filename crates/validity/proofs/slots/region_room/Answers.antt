@@ -17,4 +17,4 @@ returns c =
     let l : List ℕ = a.s.now in
     let f : (RECTANGLES.bit / 8 + RECTANGLES.width / 8 * a.n) * 8 + RECTANGLES.bit % 8 ≡ bit_at RECTANGLES a.n = omega arith in
     ap (λ (z : Bool). z && (eqb a.n RECTANGLES.count || ltb (get_or l (end_octet RECTANGLES) 0) (2 ^ (8 - RECTANGLES.bit % 8)))) (c.room_zero.ensures ∙ ap (λ (b : ℕ). zero_bits l b (end_octet RECTANGLES * 8 - b)) f)
-    ∙ room_tests RECTANGLES l a.n (λ j. omega (arith, c.type_inv.s j)) (omega arith) refl (λ h. omega arith) (omega arith)
+    ∙ room_tests RECTANGLES l a.n (λ j. omega (arith, c.fits-s j)) (omega arith) refl (λ h. omega arith) (omega arith)

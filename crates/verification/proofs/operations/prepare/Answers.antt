@@ -1,19 +1,41 @@
--- The store is as it was. Assumes nothing.
-use mathlib.Core.Path.{ap}
-use mathlib.Core.List.{List}
-use Prim.Native.Nat.{ℕ}
-use mir.Facts.{to_z-of_z}
-use mir.Syntax.{w32}
-use mir.Val.{SFits}
-use Rattle.verification.specs.declared.operations.Prepared.{Prepared}
-use borrow.Author.Rules.{rules}
+-- By what was opened, and then by the signer. Assumes nothing.
+use Rattle.std.proofs.Common.{◌∙◌, ap, sym, subst, arith}
+use borrow.Author.Tests.{ne_eqb}
+use Rattle.octets.proofs.Outcomes.{passed_on}
+use Rattle.verification.specs.Order.{prepared_answer, CertificateAsked}
+use Rattle.verification.proofs.Opened.{Opened, opened_to, opened_length, prepared_stops}
+use Rattle.verification.proofs.Judged.{prepared_judged}
 use Rattle.verification.proofs.operations.prepare.Goals as goal
+use Rattle.verification.proofs.operations.prepare.Goals.{In_ok-m}
 
-abbrev beside : Prepared → List ℕ → Prepared × List ℕ
-beside q l = (q, l)
+-- the message that was opened
+abbrev message : (c : In_ok-m) → let a = c.args in Opened a.store.now a.message.now a.x.now c.in_ok-m.m
+message c = opened_to _ _ _ _ (rw c.in-Ok.ensures.1.same at c.in_ok-m.ensures)
+
+pub returns-in_default : goal.returns-in_default
+returns-in_default c = (prepared_stops _ _ _ _ (opened_length _ _ _ (ne_eqb _ _ c.in_default.ensures.1)), tt)
+
+pub returns-in_err-m : goal.returns-in_err-m
+returns-in_err-m c =
+    let stopped = passed_on c.from_residual.result _ c.from_residual.ensures.1 in
+    (ap prepared_answer stopped ∙ prepared_stops _ _ _ _ (rw c.in-Ok.ensures.1.same at c.in_err-m.ensures), subst CertificateAsked (sym stopped) tt)
+
+pub judged-requires : goal.judged-requires
+judged-requires c = (message (goal.at.judged-requires c).In_ok-m).parts
+
+pub returns-in_err-signer : goal.returns-in_err-signer
+returns-in_err-signer c =
+    let stopped = passed_on c.from_residual-in_err-signer.result _ c.from_residual-in_err-signer.ensures.1 in (
+      ap prepared_answer stopped
+          ∙ prepared_judged _ _ _ _ (message (goal.at.returns-in_err-signer c).In_ok-m) (λ i. omega (arith, c.type_inv.message i)) _
+          (rw c.in-Ok.ensures.1.same at c.in_err-signer.ensures),
+      subst CertificateAsked (sym stopped) tt,
+    )
 
 pub returns : goal.returns
-returns c =
-    let latitude : SFits w32 c.args.latitude = search rules in
-    let longitude : SFits w32 c.args.longitude = search rules in
-    ap (λ (q : Prepared). beside q c.args.store.now) (rw (to_z-of_z latitude, to_z-of_z longitude) at c.prepare_in.ensures)
+returns c = (
+  (rw c.in-Ok.ensures.1.same at c.questions_for.ensures.0)
+      ∙ prepared_judged _ _ _ _ (message (goal.at.returns c).In_ok-m) (λ i. omega (arith, c.type_inv.message i)) _
+      (rw c.in-Ok.ensures.1.same at c.in_ok-signer.ensures),
+  c.questions_for.ensures.1,
+)

@@ -1,34 +1,17 @@
--- The invariant: the set has the slots from i on. Assumes nothing.
-use mathlib.Core.Path.{refl, ap, ◌∙◌}
-use Prim.Native.Nat.{ℕ, ◌+◌, ◌*◌, ◌^◌, ◌-◌, ◌≤◌, ◌<◌}
-use native.Mathlib.Omega.{arith}
+use Rattle.std.proofs.Common.{◌∙◌, refl, ap, arith}
 use Rattle.slot_lists.specs.Computed.{bits_from}
-use Rattle.slot_lists.proofs.SlotSets.{bits_top, bits_down, bits_zero, bit_small}
+use Rattle.slot_lists.proofs.SlotSets.{bits_lt, bits_joined}
 use Rattle.withdrawal.specs.Computed.{falls_with}
 use Rattle.withdrawal.proofs.falling.slot_set.Goals as goal
 
 pub loop-i-init : goal.loop-i-init
 unfolding bits_from
-loop-i-init c = (omega arith, refl)
+loop-i-init c = refl
 
-pub overflow_mul-set : goal.overflow_mul-set
-overflow_mul-set c =
-    let h : c.loop-i.set < 2 ^ 63 = bits_top _ _ _ (omega arith) (omega arith) c.loop-i.invariant.1 in
-    omega arith
-
-pub falls_at-requires : goal.falls_at-requires
-falls_at-requires c = (omega arith, c.requires)
-
-pub overflow_add-set : goal.overflow_add-set
-overflow_add-set c =
+pub joined-set-requires : goal.joined-set-requires
+joined-set-requires c =
     let a = c.args in
-    let h : c.loop-i.set < 2 ^ 63 = bits_top _ _ _ (omega arith) (omega arith) c.loop-i.invariant.1 in
-    let b : c.falls_at.result ≤ 1 = bit_small (falls_with a.store.now a.second a.c (c.loop-i.i - 1)) _ c.falls_at.ensures in
-    omega arith
+    (omega arith, rw c.loop-i.invariant (bits_lt (falls_with a.store.now a.second a.c) 0 c.loop-i.i))
 
 pub loop-i-preserved : goal.loop-i-preserved
-loop-i-preserved c =
-    (omega arith, ap (λ (n : ℕ). c.loop-i.set * 2 + n) c.falls_at.ensures ∙ bits_down _ _ _ (omega arith) (omega arith) c.loop-i.invariant.1)
-
-pub returns : goal.returns
-returns c = bits_zero _ _ _ (omega arith) c.loop-i.invariant.1
+loop-i-preserved c = let a = c.args in bits_joined _ _ _ _ _ c.loop-i.invariant (c.falls_at.ensures ∙ ap (falls_with a.store.now a.second a.c) c.at.ensures) c.joined-set.ensures

@@ -1,4 +1,3 @@
--- From the contracts of `list` and `withdraw` alone. Assumes nothing.
 use Rattle.withdrawal.proofs.Demand.{kept3}
 use Rattle.withdrawal.proofs.operations.list_then_withdraw.Goals as goal
 

@@ -1,18 +1,17 @@
-use mathlib.Core.Path.{sym, ap, ◌∙◌}
-use mathlib.Core.List.{List}
-use Prim.Native.Nat.{ℕ}
-use Rattle.withdrawal.specs.Computed.{asked_of}
-use Rattle.withdrawal.proofs.Asked.{asked_held, held_below, withdrawal_asked}
+use Rattle.std.proofs.Common.{sym}
+use Rattle.octets.proofs.Outcomes.{passed_on}
+use Rattle.withdrawal.proofs.Asked.{asked_short, withdrawal_asked}
 use Rattle.withdrawal.proofs.operations.withdraw.Goals as goal
 
-abbrev pair : ℕ → List ℕ → ℕ × List ℕ
-pair n l = (n, l)
+pub returns-in_default : goal.returns-in_default
+returns-in_default c = withdrawal_asked _ _ _ (sym (asked_short _ _ c.in_default.ensures.cases))
 
-pub mark_withdrawn-requires : goal.mark_withdrawn-requires
-mark_withdrawn-requires c = let h = asked_held _ _ _ (sym c.ask.ensures ∙ ap asked_of c.in-Held.is) in (held_below _ _ _ h, h.long)
+pub returns-in_err-c : goal.returns-in_err-c
+returns-in_err-c c =
+    let same = c.in-Some.ensures.cases.same in
+    rw (passed_on c.from_residual.result _ c.from_residual.ensures.1, same) (withdrawal_asked _ _ _ (sym (rw same at c.in_err-c.ensures)))
 
-pub returns-in-Refused : goal.returns-in-Refused
-returns-in-Refused c = withdrawal_asked _ _ _ (sym c.ask.ensures ∙ ap asked_of c.in-Refused.is)
-
-pub returns-in-Held : goal.returns-in-Held
-returns-in-Held c = ap (λ (l : List ℕ). pair 0 l) c.mark_withdrawn.ensures ∙ withdrawal_asked _ _ _ (sym c.ask.ensures ∙ ap asked_of c.in-Held.is)
+pub returns : goal.returns
+returns c =
+    let same = c.in-Some.ensures.cases.same in
+    rw (c.mark_withdrawn.ensures, same) (withdrawal_asked _ _ _ (sym (rw same at c.in_ok-c.ensures)))

@@ -1,8 +1,0 @@
--- Kind, start and end, one after the other. Assumes nothing.
-use Rattle.bitfields.specs.Items.{built}
-use Rattle.bitfields.specs.Runs.{with_fields}
-use Rattle.records.proofs.images.put_terms.Goals as goal
-
-pub returns : goal.returns
-unfolding built with_fields
-returns c = cc

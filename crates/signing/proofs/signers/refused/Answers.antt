@@ -1,5 +1,0 @@
--- Nobody. Assumes nothing.
-use Rattle.signing.proofs.signers.refused.Goals as goal
-
-pub returns : goal.returns
-returns c = rw c.no_signer.ensures

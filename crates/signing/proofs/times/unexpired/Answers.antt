@@ -1,5 +1,0 @@
--- By cases. Assumes nothing.
-use Rattle.signing.proofs.times.unexpired.Goals as goal
-
-pub returns-then-expiration : goal.returns-then-expiration
-returns-then-expiration c = rw c.if-expiration.true

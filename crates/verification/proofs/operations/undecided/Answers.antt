@@ -1,5 +1,0 @@
--- All values are zero. Assumes nothing.
-use Rattle.verification.proofs.operations.undecided.Goals as goal
-
-pub returns : goal.returns
-returns c = rw c.nowhere.ensures
