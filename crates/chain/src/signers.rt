@@ -93,7 +93,7 @@ pub fn walk(
 ) -> Result<(), Refusal>
     ensures { answer_of result ≡ walk_number (withdrawn_in store.now) store.now second place left subject.now }
 {
-    let first = first_step(store, subject, second, place, left)?;
+    let first = first_step(store, subject, second, place, left);
     let asked = Conditions {
         second,
         place,

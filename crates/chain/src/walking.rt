@@ -1,4 +1,4 @@
-ghost use Rattle.std.specs.Prelude.{◌≡◌, Ok, Some};
+ghost use Rattle.std.specs.Prelude.{◌≡◌, Some};
 ghost use Rattle.octets.specs.Outcomes.{answer_of};
 ghost use Rattle.store.specs.Slots.{id_at};
 ghost use Rattle.store.specs.Search.{find};
@@ -14,22 +14,23 @@ use store::slot::Slot;
 // How many certificates may follow the first of a walk: the eighth must be a root.
 pub const FOLLOWERS: u8 = 7;
 
-// The walk goes on with the issuer that a step found, if it found one; at most `left` certificates may follow the one that the step
-// was made from. It calls itself, and the step is a call of its own, so that each of eight certificates takes little stack.
-pub(crate) fn walk_on(
+// The walk goes on after a step: it ends where the step ended it, or goes on with the issuer that was found; at most `left` certificates
+// may follow the one that the step was made from. It calls itself, and the step is a call of its own, so that each of eight certificates
+// takes little stack.
+pub fn walk_on(
     store: &[u8; STORE_LENGTH],
-    up: Option<Slot>,
+    up: Result<Option<Slot>, Refusal>,
     asked: &Conditions,
     left: u8,
 ) -> Result<(), Refusal>
-    requires { Leads store.now left (up_of (Ok up)) }
-    ensures { answer_of result ≡ walked_on (also_at store.now (gone_of asked.now.gone)) store.now asked.now.second asked.now.place left (up_of (Ok up)) }
+    requires { Leads store.now left (up_of up) }
+    ensures { answer_of result ≡ walked_on (also_at store.now (gone_of asked.now.gone)) store.now asked.now.second asked.now.place left (up_of up) }
 {
-    match up {
+    match up? {
         None => Ok(()),
         Some(issuer) => {
             let rest = left - 1;
-            let next = step_at(store, issuer, asked, rest)?;
+            let next = step_at(store, issuer, asked, rest);
             walk_on(store, next, asked, rest)
         }
     }
@@ -45,6 +46,6 @@ pub fn walk_at(
     requires { find store.now (id_at store.now slot) ≡ Some slot }
     ensures { answer_of result ≡ walk_number (also_at store.now (gone_of asked.now.gone)) store.now asked.now.second asked.now.place left (subject_at store.now slot) }
 {
-    let first = step_at(store, slot, asked, left)?;
+    let first = step_at(store, slot, asked, left);
     walk_on(store, first, asked, left)
 }

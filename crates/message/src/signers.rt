@@ -14,9 +14,9 @@ use octets::refusals::Refusal;
 use octets::vectors::{Part, run_at};
 
 // The forms of a signer that are read (001, clause 4.2.11): an id, or a certificate.
-const NAMED: u8 = 1;
+pub const NAMED: u8 = 1;
 
-const CARRIED: u8 = 2;
+pub const CARRIED: u8 = 2;
 
 // Who signed: the certificate with the id whose 8 octets are named, or the certificate that stands here, of which the signed range and
 // the signature are given.

@@ -15,7 +15,7 @@ use Rattle.message_layout.specs.WellFormed.{WellFormedLocation}
 use Rattle.message_layout.specs.Layout.{location_octets}
 use Rattle.message_layout.specs.Fields.{place_fields, location_fields}
 
-place_exact : Exact WellFormedLocation location_octets (λ at. place_fields) place_at
+pub place_exact : Exact WellFormedLocation location_octets (λ at. place_fields) place_at
 unfolding place_at
 place_exact =
     reshape (exactly (seq _ (before latitude_exact) (λ at latitude g.

@@ -8,7 +8,6 @@ ghost use Rattle.overview.specs.Computed.{Below, Within, leads_to};
 
 use crate::links::{Link, write_links};
 use chain::walking::FOLLOWERS;
-use slot_lists::joined;
 use store::sizes::{SLOTS, STORE_LENGTH};
 
 // Whether a link leads to a slot of the set, or is a root's.
@@ -30,8 +29,8 @@ fn raised(links: &[Link; SLOTS], set: u64) -> u64
     ensures { result ≡ bits_from (λ i. leads_to set (get_or links.now i NoWay)) 0 slot_count }
 {
     let mut next = 0;
-    for (i, link) in links.iter().enumerate() {
-        next = joined(next, i, leads(set, *link));
+    for i in (0..SLOTS).rev() {
+        next = next * 2 + u64::from(leads(set, links[i]));
     }
     next
 }

@@ -15,22 +15,23 @@ fn print_octets(rt: &impl Print, s: &[u8]) -> io::Result<()> {
     println!(rt)
 }
 
-// What was hashed, and its digest.
+// What was hashed, and its digest. Each part of a line is a write of its own.
 fn named(rt: &impl Print, name: &str, d: [u8; 32]) -> io::Result<()> {
-    print!(rt; "{name}: ")?;
+    print!(rt; "{name}")?;
+    print!(rt; ": ")?;
     print_octets(rt, &d)
 }
 
 // The digest of so many octets.
 fn counted(rt: &impl Print, s: &[u8]) -> io::Result<()> {
-    print!(rt; "{} octets: ", s.len())?;
-    print_octets(rt, &digest(s))
+    print!(rt; "{}", s.len())?;
+    named(rt, " octets", digest(s))
 }
 
 // The digest with the octet at a place taken as 0, and its last eight octets.
 fn zeroed(rt: &impl Print, s: &[u8], place: usize) -> io::Result<()> {
-    print!(rt; "{} octets, 0 at {place}: ", s.len())?;
-    print_octets(rt, &digest_with_zero_at(s, place))?;
+    print!(rt; "{} octets, 0 at {place}", s.len())?;
+    named(rt, "", digest_with_zero_at(s, place))?;
     print!(rt; "its last eight: ")?;
     print_octets(rt, &short_digest_with_zero_at(s, place))
 }

@@ -4,12 +4,12 @@ use mathlib.Core.Logic.{◌⊎◌, inl, inr, ⊎_elim}
 use mathlib.Core.Bool.{Bool, true, false, cond, false≢true}
 use mathlib.Core.List.Memᴰ
 use mathlib.Core.List.{[], ◌∷◌, Memᴰ}
-use Prim.Native.Nat.{ℕ, zero, suc, ◌+◌, ◌*◌, ◌^◌, ◌/◌, ◌%◌, ◌≤◌, ◌<◌, zero-le}
+use Prim.Native.Nat.{ℕ, zero, suc, ◌+◌, ◌*◌, ◌-◌, ◌^◌, ◌/◌, ◌%◌, ◌≤◌, ◌<◌, zero-le}
 use native.Mathlib.Nat.{eq-or-lt_of_le, pow-suc, div-one}
 use native.Mathlib.Omega.{arith}
 use native.Mathlib.Numerals.{add-one}
 use lib.ListN.{length, get_or}
-use lib.Pow.{shr-shr}
+use lib.Pow.{pow_mono, shr-shr}
 use lib.Count.{ones, ones_step}
 use Rattle.slot_lists.specs.SlotSets.{slots_from}
 use Rattle.slot_lists.specs.Computed.{bit, bits_from}
@@ -137,6 +137,22 @@ module _ (p : ℕ → Bool) where
   unfolding bits_from
   bits_lt a zero = omega arith
   bits_lt a (suc k) = omega (arith, bit_le (p a), bits_lt (suc a) k, pow-suc 2 k)
+
+  pub bits_top : (i x : ℕ) → 0 < i → i ≤ 64 → x ≡ bits_from p i (64 - i) → x < 2 ^ 63
+  bits_top i x l u e =
+      let h : 64 - i ≤ 63 = omega arith in
+      omega (arith, bits_lt i (64 - i), pow_mono h)
+
+  pub bits_zero : (i x : ℕ) → i ≡ 0 → x ≡ bits_from p i (64 - i) → x ≡ bits_from p 0 64
+  bits_zero i x z e = e ∙ ap (λ (j : ℕ). bits_from p j (64 - j)) z
+
+  pub bits_down : (i x : ℕ) → 0 < i → i ≤ 64 → x ≡ bits_from p i (64 - i) → x * 2 + bit (p (i - 1)) ≡ bits_from p (i - 1) (64 - (i - 1))
+  unfolding bits_from
+  bits_down zero x l u e = absurd (omega arith)
+  bits_down (suc i) x l u e =
+      let a : suc i - 1 ≡ i = omega arith in
+      let b : 64 - i ≡ suc (64 - suc i) = omega arith in
+      rw (a, b, e)
 
   length_cons : (a k : ℕ) (b : Bool) → bit b + length (slots_from p (suc a) k) ≡ length (cond b (a ∷ slots_from p (suc a) k) (slots_from p (suc a) k))
   unfolding bit

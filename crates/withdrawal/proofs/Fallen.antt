@@ -38,11 +38,11 @@ module _ (s : List ℕ) (t c i : ℕ) where
     unfolding falls_with
     falls_not e = rw (f, e, and_false)
 
-    module _ (n : ¬ (walk_number (also_at s c) s t None followers (subject_at s i) ≡ 0)) where
-      pub falls_never : ¬ (walk_number (also_at s no_slot) s t None followers (subject_at s i) ≡ 0) → false ≡ falls_with s t c i
-      unfolding falls_with
-      falls_never m = rw (f, ne_eqb _ 0 m)
+    pub falls_never : ¬ (walk_number (also_at s no_slot) s t None followers (subject_at s i) ≡ 0) → false ≡ falls_with s t c i
+    unfolding falls_with
+    falls_never m = rw (f, ne_eqb _ 0 m)
 
+    module _ (n : ¬ (walk_number (also_at s c) s t None followers (subject_at s i) ≡ 0)) where
       pub falls_here : walk_number (also_at s no_slot) s t None followers (subject_at s i) ≡ 0 → true ≡ falls_with s t c i
       unfolding falls_with
       falls_here e = rw (f, e, ne_eqb _ 0 n)

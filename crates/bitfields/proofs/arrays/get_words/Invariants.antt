@@ -4,4 +4,4 @@ use Rattle.bitfields.specs.Runs.{fields_of}
 use Rattle.bitfields.proofs.arrays.get_words.Given as goal
 
 abbrev pub invariant-loop-i : goal.invariant-loop-i
-invariant-loop-i g l = (length l.word-items ≡ g.row.N) × (take l.i l.word-items ≡ fields_of l.s l.bit l.width l.i)
+invariant-loop-i l = (length l.out ≡ length l.initial.out) × (take l.i l.out ≡ fields_of l.s l.bit l.width l.i)

@@ -1,18 +1,33 @@
-use Rattle.std.proofs.Common.{ℕ, refl, arith, get_or}
-use Rattle.slot_lists.specs.Computed.{bits_from}
-use Rattle.slot_lists.proofs.SlotSets.{bits_lt, bits_joined}
-use Rattle.overview.specs.Computed.{leads_to}
-use Rattle.overview.specs.declared.links.Link.TheVariants.{NoWay}
+use Rattle.std.proofs.Common.{◌≡◌, ◌∙◌, ap, refl, arith, Bool, true, false, ℕ, ◌+◌, ◌*◌, ◌<◌, ◌≤◌, ◌^◌}
+use Rattle.slot_lists.specs.Computed.{bit, bits_from}
+use Rattle.slot_lists.proofs.SlotSets.{bits_top, bits_down, bits_zero, bit_small}
 use Rattle.overview.proofs.levels.raised.Goals as goal
+
+-- a Bool as a number
+as_bit : (b : Bool) → mir.Val.bool_byte b ≡ bit b
+unfolding bit
+as_bit true = refl
+as_bit false = refl
 
 pub loop-i-init : goal.loop-i-init
 unfolding bits_from
 loop-i-init c = refl
 
-pub joined-next-requires : goal.joined-next-requires
-joined-next-requires c =
-    let a = c.args in
-    (omega arith, rw c.loop-i.invariant (bits_lt (λ (k : ℕ). leads_to a.set (get_or a.links.now k NoWay)) 0 c.loop-i.i))
+pub overflow_mul-next : goal.overflow_mul-next
+overflow_mul-next c =
+    let h : c.loop-i.next < 2 ^ 63 = bits_top _ _ _ (omega arith) (omega arith) c.loop-i.invariant in
+    omega arith
+
+pub overflow_add-next : goal.overflow_add-next
+overflow_add-next c =
+    let h : c.loop-i.next < 2 ^ 63 = bits_top _ _ _ (omega arith) (omega arith) c.loop-i.invariant in
+    let b : c.from.result ≤ 1 = bit_small _ _ (c.from.ensures ∙ as_bit _) in
+    omega arith
 
 pub loop-i-preserved : goal.loop-i-preserved
-loop-i-preserved c = bits_joined _ _ _ _ _ c.loop-i.invariant c.leads.ensures c.joined-next.ensures
+loop-i-preserved c =
+    ap (λ (n : ℕ). c.loop-i.next * 2 + n) (c.from.ensures ∙ as_bit _ ∙ ap bit c.leads.ensures)
+    ∙ bits_down _ _ _ (omega arith) (omega arith) c.loop-i.invariant
+
+pub returns : goal.returns
+returns c = bits_zero _ _ _ (omega arith) c.loop-i.invariant

@@ -21,8 +21,8 @@ returns c =
     let west : SFits w32 c.as_i32-2.result = search rules in
     let south : SFits w32 c.as_i32-3.result = search rules in
     let east : SFits w32 c.as_i32-4.result = search rules in
-    let edge : (i at : ℕ) → i < 4 → a.bit + edge_width * i ≡ at → get_or c.get_words.result i 0 ≡ field a.s.now at edge_width =
-    λ i at h e. ap (λ (l : List ℕ). get_or l i 0) c.get_words.ensures ∙ fields_at a.s.now a.bit edge_width 4 i h ∙ ap (λ (b : ℕ). field a.s.now b edge_width) e in
+    let edge : (i at : ℕ) → i < 4 → a.bit + edge_width * i ≡ at → get_or c.word_array.result i 0 ≡ field a.s.now at edge_width =
+    λ i at h e. ap (λ (l : List ℕ). get_or l i 0) c.word_array.ensures ∙ fields_at a.s.now a.bit edge_width 4 i h ∙ ap (λ (b : ℕ). field a.s.now b edge_width) e in
     rw (
       to_z-of_z north,
       to_z-of_z west,

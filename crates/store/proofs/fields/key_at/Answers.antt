@@ -8,4 +8,4 @@ use Rattle.store.proofs.fields.key_at.Goals as goal
 pub returns : goal.returns
 unfolding record_of
 returns c =
-    rw (c.get8.ensures, c.get_octets.ensures, c.octets_at-octets.ensures) (refl, field_lt _ PARITY.bit PARITY.width)
+    rw (c.get8.ensures, c.octet_array.ensures, c.octets_at-octets.ensures) (refl, field_lt _ PARITY.bit PARITY.width)
